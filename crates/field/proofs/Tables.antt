@@ -1,12 +1,10 @@
--- Each table keeps its rule, by one test of the whole table.
-use mathlib.Core.Path.{_≡_, refl}
+-- A list that passes the test of a rule at each entry is the rule's table: how each table is tied to its rule, once.
+use mathlib.Core.Path.{_≡_}
 use mathlib.Core.Bool.{Bool}
 use mathlib.Core.List.{List}
-use Prim.Native.Nat.{ℕ, _<_}
+use Prim.Native.Nat.{ℕ}
 use lib.Dec.{T, eqb, eqb→eq}
 use lib.ListN.{length, getD}
-use Rattle.field.specs.Field.{_⊕_, xtimes, productBy, _•_, inverse, digit, fromDigits, affine, invAffine, subByte, invSubByte}
-use Rattle.field.specs.Mixing.{word, share, mixedEntry, unmixedEntry}
 use Rattle.field.specs.Table.{Table}
 use Rattle.field.proofs.Every.{every, at}
 
@@ -14,7 +12,6 @@ use Rattle.field.proofs.Every.{every, at}
 abbrev pub is : (ℕ → ℕ) → ℕ → ℕ → Bool
 is rule k x = eqb x (rule k)
 
--- a list of 256 numbers that passes the test is the rule's table
-pub table : (rule : ℕ → ℕ) (xs : List ℕ) → length xs ≡ 256 → T (every (is rule) 0 xs) → Table rule xs
-table rule xs len t =
+pub table : (size : ℕ) (rule : ℕ → ℕ) (xs : List ℕ) → length xs ≡ size → T (every (is rule) 0 xs) → Table size rule xs
+table size rule xs len t =
     record { entry = λ k h. eqb→eq (getD xs k 0) (rule k) (at (is rule) xs t k (rw len h)) }

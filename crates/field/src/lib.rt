@@ -10,28 +10,28 @@ ghost use Rattle.field.specs.Table.{Table};
 
 // The S-box: SubBytes of each byte.
 pub fn sbox() -> [u8; 256]
-    ensures { λ r. ⌜ Table subByte r ⌝ }
+    ensures { λ r. ⌜ Table 256 subByte r ⌝ }
 {
     substitution::SBOX
 }
 
 // The inverse S-box: InvSubBytes of each byte.
 pub fn inv_sbox() -> [u8; 256]
-    ensures { λ r. ⌜ Table invSubByte r ⌝ }
+    ensures { λ r. ⌜ Table 256 invSubByte r ⌝ }
 {
     substitution::INV_SBOX
 }
 
 // For each byte, what SubBytes and then MixColumns make of it in the first row of a column.
 pub fn mixed() -> [u32; 256]
-    ensures { λ r. ⌜ Table mixedEntry r ⌝ }
+    ensures { λ r. ⌜ Table 256 mixedEntry r ⌝ }
 {
     mixing::MIXED
 }
 
 // For each byte, what InvSubBytes and then InvMixColumns make of it in the first row of a column.
 pub fn unmixed() -> [u32; 256]
-    ensures { λ r. ⌜ Table unmixedEntry r ⌝ }
+    ensures { λ r. ⌜ Table 256 unmixedEntry r ⌝ }
 {
     mixing::UNMIXED
 }

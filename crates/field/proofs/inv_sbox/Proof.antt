@@ -7,7 +7,7 @@ use Rattle.field.proofs.inv_sbox.Tie as tie
 
 returns : tie.Need-returns
 unfolding _⊕_ xtimes productBy _•_ inverse digit fromDigits invAffine invSubByte
-returns c = table invSubByte _ refl tt
+returns c = table 256 invSubByte _ refl tt
 
 pub inv-sbox-spec : {M : Type 1} → statement M
 inv-sbox-spec = tie.close (tie.spec returns)

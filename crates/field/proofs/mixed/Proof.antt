@@ -8,7 +8,7 @@ use Rattle.field.proofs.mixed.Tie as tie
 
 returns : tie.Need-returns
 unfolding _⊕_ xtimes productBy _•_ inverse digit fromDigits affine subByte word share mixedEntry
-returns c = table mixedEntry _ refl tt
+returns c = table 256 mixedEntry _ refl tt
 
 pub mixed-spec : {M : Type 1} → statement M
 mixed-spec = tie.close (tie.spec returns)

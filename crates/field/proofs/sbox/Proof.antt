@@ -7,7 +7,7 @@ use Rattle.field.proofs.sbox.Tie as tie
 
 returns : tie.Need-returns
 unfolding _⊕_ xtimes productBy _•_ inverse digit fromDigits affine subByte
-returns c = table subByte _ refl tt
+returns c = table 256 subByte _ refl tt
 
 pub sbox-spec : {M : Type 1} → statement M
 sbox-spec = tie.close (tie.spec returns)

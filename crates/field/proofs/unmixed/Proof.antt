@@ -8,7 +8,7 @@ use Rattle.field.proofs.unmixed.Tie as tie
 
 returns : tie.Need-returns
 unfolding _⊕_ xtimes productBy _•_ inverse digit fromDigits invAffine invSubByte word share unmixedEntry
-returns c = table unmixedEntry _ refl tt
+returns c = table 256 unmixedEntry _ refl tt
 
 pub unmixed-spec : {M : Type 1} → statement M
 unmixed-spec = tie.close (tie.spec returns)

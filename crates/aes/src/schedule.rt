@@ -1,0 +1,79 @@
+// The key schedule, and the round keys of the equivalent inverse cipher.
+use crate::columns;
+use crate::columns::Columns;
+use crate::rounds;
+
+ghost use mathlib.Core.Path.{_≡_};
+ghost use mathlib.Core.List.{_++_};
+ghost use Prim.Native.Nat.{_+_, _*_, _<_, _≤_};
+ghost use Rattle.field.specs.Field.{subByte};
+ghost use Rattle.field.specs.Table.{Table};
+ghost use Rattle.aes.specs.Schedule.{keyExpansion, rcon};
+ghost use Rattle.aes.specs.Inverse.{InverseKeys};
+
+// The round constants, Rcon[1] to Rcon[10].
+const RCON: [u32; 10] = [
+    16777216,
+    33554432,
+    67108864,
+    134217728,
+    268435456,
+    536870912,
+    1073741824,
+    2147483648,
+    452984832,
+    905969664,
+];
+
+// The four words after x, which stand before word 4 r of the schedule.
+fn next(t: &[u8; 256], x: Columns, rcon: u32) -> Columns {
+    let d = x.d;
+    let turned = columns::turn_three(d);
+    let a = rounds::substituted(t, turned, turned, turned, turned, x.a ^ rcon);
+    let b = x.b ^ a;
+    let c = x.c ^ b;
+    Columns { a, b, c, d: d ^ c }
+}
+
+// Lays four words down as words 4 r to 4 r + 3.
+fn put(w: &mut [u32; 44], r: usize, x: Columns)
+    requires { ⌜ r ≤ 10 ⌝ }
+{
+    let k = r * 4;
+    w[k] = x.a;
+    w[k + 1] = x.b;
+    w[k + 2] = x.c;
+    w[k + 3] = x.d;
+}
+
+// KeyExpansion: the 44 words of a key.
+pub(crate) fn expand(key: &[u8; 16]) -> [u32; 44] {
+    let t = field::sbox();
+    let constants = RCON;
+    let mut w = [0u32; 44];
+    let mut x = columns::columns_of(key);
+    put(&mut w, 0, x);
+    let mut r: usize = 0;
+    while r < 10 {
+        let y = next(&t, x, constants[r]);
+        x = y;
+        r += 1;
+        put(&mut w, r, x);
+    }
+    w
+}
+
+// The keys of the equivalent inverse cipher: InvMixColumns of round keys 1 to 9.
+pub(crate) fn invert(w: &[u32; 44]) -> [u32; 44] {
+    let s = field::sbox();
+    let t = field::unmixed();
+    let mut v = *w;
+    let mut i: usize = 4;
+    while i < 40 {
+        let k = w[i];
+        let x = rounds::substituted(&s, k, k, k, k, 0);
+        v[i] = rounds::shared(&t, x, x, x, x, 0);
+        i += 1;
+    }
+    v
+}
