@@ -15,7 +15,7 @@ state f =
 
 -- Byte r of a word of four bytes, the first one highest (3.5).
 unfoldable pub byteOf : ℕ → ℕ → ℕ
-byteOf w r = w / 256 ^ (3 - r) % 256
+byteOf w r = w / 2 ^ (8 * (3 - r)) % 256
 
 -- The place j rows below place i, in the same column and counted round.
 abbrev pub below : ℕ → ℕ → ℕ

@@ -2,10 +2,12 @@
 use mathlib.Core.Path.{_≡_}
 use mathlib.Core.List.{List, [], _∷_}
 use Prim.Native.Nat.{ℕ, _+_, _-_, _%_}
+use lib.ListN.{set}
 use Rattle.field.specs.Field.{_⊕_}
 use Rattle.field.specs.Mixing.{word}
 use Rattle.aes.specs.declared.columns.Columns.{Columns}
-use Rattle.aes.specs.State.{at, byteOf}
+use Rattle.aes.specs.State.{at, state, byteOf}
+use Rattle.aes.specs.Schedule.{subWord, rotWord, keyWord}
 
 -- A word r and its four bytes.
 pub record Word (a b c d r : ℕ) : Type 0 where
@@ -29,6 +31,18 @@ fourWords a b c d =
 abbrev pub blockOf : Columns → List ℕ
 blockOf x = fourWords (x .a) (x .b) (x .c) (x .d)
 
+-- The columns x of a block of bytes b.
+pub record Loaded (b : List ℕ) (x : Columns) : Type 0 where
+  pub block : blockOf x ≡ state (at b)
+  pub first : x .a ≡ keyWord b 0
+  pub second : x .b ≡ keyWord b 1
+  pub third : x .c ≡ keyWord b 2
+  pub fourth : x .d ≡ keyWord b 3
+
+-- A list with four words laid down from place k on.
+abbrev pub fourSet : List ℕ → ℕ → ℕ → ℕ → ℕ → ℕ → List ℕ
+fourSet w k a b c d = set (set (set (set w k a) (k + 1) b) (k + 2) c) (k + 3) d
+
 -- The shares of four bytes in one column, summed: the first byte of a, the second of b, the third of c and the fourth of d, through a table of shares.
 unfoldable pub sharedWord : List ℕ → ℕ → ℕ → ℕ → ℕ → ℕ
 sharedWord t a b c d =
@@ -37,3 +51,10 @@ sharedWord t a b c d =
 -- The first byte of a, the second of b, the third of c and the fourth of d, each through a table.
 unfoldable pub substitutedWord : List ℕ → ℕ → ℕ → ℕ → ℕ → ℕ
 substitutedWord t a b c d = word (at t (byteOf a 0)) (at t (byteOf b 1)) (at t (byteOf c 2)) (at t (byteOf d 3))
+
+-- The four words after x in a key schedule, with a round constant k: FIPS 197's loop, four turns of it.
+pub record NextKey (x : Columns) (k : ℕ) (y : Columns) : Type 0 where
+  pub first : y .a ≡ x .a ⊕ (subWord (rotWord (x .d)) ⊕ k)
+  pub second : y .b ≡ x .b ⊕ y .a
+  pub third : y .c ≡ x .c ⊕ y .b
+  pub fourth : y .d ≡ x .d ⊕ y .c

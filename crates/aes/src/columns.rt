@@ -2,7 +2,7 @@
 ghost use mathlib.Core.Path.{_≡_};
 ghost use Rattle.field.specs.Field.{_⊕_};
 ghost use Rattle.aes.specs.State.{at, state};
-ghost use Rattle.aes.specs.Words.{Word, turned, blockOf};
+ghost use Rattle.aes.specs.Words.{Word, Loaded, turned, blockOf};
 
 // The four columns of a state, the first row in the highest byte of each word.
 pub struct Columns {
@@ -49,7 +49,7 @@ pub(crate) fn turn_three(x: u32) -> u32
 
 // The columns of a block of sixteen bytes.
 pub(crate) fn columns_of(b: &[u8; 16]) -> Columns
-    ensures { λ r. ⌜ blockOf r ≡ state (at (now (b .entry))) ⌝ }
+    ensures { λ r. ⌜ Loaded (now (b .entry)) r ⌝ }
 {
     Columns {
         a: word_of(b[0], b[1], b[2], b[3]),

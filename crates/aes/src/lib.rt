@@ -6,6 +6,11 @@ mod schedule;
 ghost use mathlib.Core.Path.{_≡_};
 ghost use Rattle.aes.specs.Cipher.{cipher, invCipher};
 ghost use Rattle.aes.specs.Schedule.{keyExpansion};
+ghost use Rattle.aes.specs.Inverse.{eqInvCipher};
+ghost use Rattle.aes.specs.Words.{blockOf};
+ghost use Rattle.field.specs.Field.{subByte, invSubByte};
+ghost use Rattle.field.specs.Mixing.{mixedEntry, unmixedEntry};
+ghost use Rattle.field.specs.Table.{Table};
 
 // KeyExpansion: the 44 words that encipher under a key.
 pub fn expand(key: &[u8; 16]) -> [u32; 44]
@@ -25,7 +30,11 @@ pub fn encipher(w: &[u32; 44], block: &[u8; 16]) -> [u8; 16]
 }
 
 // Cipher on columns, through the tables that the caller lends.
-fn encipher_columns(t: &[u32; 256], s: &[u8; 256], w: &[u32; 44], block: columns::Columns) -> columns::Columns {
+fn encipher_columns(t: &[u32; 256], s: &[u8; 256], w: &[u32; 44], block: columns::Columns) -> columns::Columns
+    requires { ⌜ Table 256 mixedEntry (now t) ⌝ }
+    requires { ⌜ Table 256 subByte (now s) ⌝ }
+    ensures { λ r. ⌜ blockOf r ≡ cipher (now (w .entry)) (blockOf block) ⌝ }
+{
     let mut x = rounds::add_round_key(block, w, 0);
     let mut n: usize = 0;
     while n < 9 {
@@ -49,7 +58,11 @@ pub fn decipher(key: &[u8; 16], block: &[u8; 16]) -> [u8; 16]
 }
 
 // InvCipher on columns, under the keys of the equivalent inverse cipher and through the tables that the caller lends.
-fn decipher_columns(t: &[u32; 256], s: &[u8; 256], v: &[u32; 44], block: columns::Columns) -> columns::Columns {
+fn decipher_columns(t: &[u32; 256], s: &[u8; 256], v: &[u32; 44], block: columns::Columns) -> columns::Columns
+    requires { ⌜ Table 256 unmixedEntry (now t) ⌝ }
+    requires { ⌜ Table 256 invSubByte (now s) ⌝ }
+    ensures { λ r. ⌜ blockOf r ≡ eqInvCipher (now (v .entry)) (blockOf block) ⌝ }
+{
     let mut x = rounds::add_round_key(block, v, 10);
     let mut n: usize = 0;
     while n < 9 {

@@ -11,26 +11,26 @@ ghost use Rattle.aes.specs.State.{addRoundKey, shiftRows, subBytes, invS
 ghost use Rattle.aes.specs.Cipher.{round};
 ghost use Rattle.aes.specs.Words.{blockOf, sharedWord, substitutedWord};
 
-// A word of a round key plus the shares of four bytes in its column.
+// The shares of four bytes in their column, plus a word of a round key.
 pub(crate) fn shared(t: &[u32; 256], a: u32, b: u32, c: u32, d: u32, k: u32) -> u32
-    ensures { λ r. ⌜ r ≡ k ⊕ sharedWord (now (t .entry)) a b c d ⌝ }
+    ensures { λ r. ⌜ r ≡ sharedWord (now (t .entry)) a b c d ⊕ k ⌝ }
 {
     let w = t[(a / 16777216 % 256) as usize];
     let x = t[(b / 65536 % 256) as usize];
     let y = t[(c / 256 % 256) as usize];
     let z = t[(d % 256) as usize];
-    k ^ (w ^ columns::turn_one(x) ^ columns::turn_two(y) ^ columns::turn_three(z))
+    w ^ columns::turn_one(x) ^ columns::turn_two(y) ^ columns::turn_three(z) ^ k
 }
 
-// A word of a round key plus four bytes, each substituted.
+// Four bytes, each substituted, plus a word of a round key.
 pub(crate) fn substituted(t: &[u8; 256], a: u32, b: u32, c: u32, d: u32, k: u32) -> u32
-    ensures { λ r. ⌜ r ≡ k ⊕ substitutedWord (now (t .entry)) a b c d ⌝ }
+    ensures { λ r. ⌜ r ≡ substitutedWord (now (t .entry)) a b c d ⊕ k ⌝ }
 {
     let w = t[(a / 16777216 % 256) as usize];
     let x = t[(b / 65536 % 256) as usize];
     let y = t[(c / 256 % 256) as usize];
     let z = t[(d % 256) as usize];
-    k ^ columns::word_of(w, x, y, z)
+    columns::word_of(w, x, y, z) ^ k
 }
 
 // AddRoundKey with round key r.

@@ -4,11 +4,11 @@ use crate::columns::Columns;
 use crate::rounds;
 
 ghost use mathlib.Core.Path.{_≡_};
-ghost use mathlib.Core.List.{_++_};
-ghost use Prim.Native.Nat.{_+_, _*_, _<_, _≤_};
+ghost use Prim.Native.Nat.{_*_, _≤_};
 ghost use Rattle.field.specs.Field.{subByte};
 ghost use Rattle.field.specs.Table.{Table};
-ghost use Rattle.aes.specs.Schedule.{keyExpansion, rcon};
+ghost use Rattle.aes.specs.Schedule.{keyExpansion};
+ghost use Rattle.aes.specs.Words.{NextKey, fourSet};
 ghost use Rattle.aes.specs.Inverse.{InverseKeys};
 
 // The round constants, Rcon[1] to Rcon[10].
@@ -25,11 +25,14 @@ const RCON: [u32; 10] = [
     905969664,
 ];
 
-// The four words after x, which stand before word 4 r of the schedule.
-fn next(t: &[u8; 256], x: Columns, rcon: u32) -> Columns {
+// The four words of the schedule after x.
+fn next(t: &[u8; 256], x: Columns, rcon: u32) -> Columns
+    requires { ⌜ Table 256 subByte (now t) ⌝ }
+    ensures { λ y. ⌜ NextKey x rcon y ⌝ }
+{
     let d = x.d;
     let turned = columns::turn_three(d);
-    let a = rounds::substituted(t, turned, turned, turned, turned, x.a ^ rcon);
+    let a = x.a ^ rounds::substituted(t, turned, turned, turned, turned, rcon);
     let b = x.b ^ a;
     let c = x.c ^ b;
     Columns { a, b, c, d: d ^ c }
@@ -38,6 +41,7 @@ fn next(t: &[u8; 256], x: Columns, rcon: u32) -> Columns {
 // Lays four words down as words 4 r to 4 r + 3.
 fn put(w: &mut [u32; 44], r: usize, x: Columns)
     requires { ⌜ r ≤ 10 ⌝ }
+    ensures { λ _. ⌜ now (w .exit) ≡ fourSet (now (w .entry)) (r * 4) (x .a) (x .b) (x .c) (x .d) ⌝ }
 {
     let k = r * 4;
     w[k] = x.a;
@@ -47,7 +51,9 @@ fn put(w: &mut [u32; 44], r: usize, x: Columns)
 }
 
 // KeyExpansion: the 44 words of a key.
-pub(crate) fn expand(key: &[u8; 16]) -> [u32; 44] {
+pub(crate) fn expand(key: &[u8; 16]) -> [u32; 44]
+    ensures { λ r. ⌜ r ≡ keyExpansion (now (key .entry)) ⌝ }
+{
     let t = field::sbox();
     let constants = RCON;
     let mut w = [0u32; 44];
@@ -64,7 +70,9 @@ pub(crate) fn expand(key: &[u8; 16]) -> [u32; 44] {
 }
 
 // The keys of the equivalent inverse cipher: InvMixColumns of round keys 1 to 9.
-pub(crate) fn invert(w: &[u32; 44]) -> [u32; 44] {
+pub(crate) fn invert(w: &[u32; 44]) -> [u32; 44]
+    ensures { λ v. ⌜ InverseKeys (now (w .entry)) v ⌝ }
+{
     let s = field::sbox();
     let t = field::unmixed();
     let mut v = *w;

@@ -15,7 +15,7 @@ unfoldable pub row : ℕ → ℕ → ℕ → ℕ → ℕ → ℕ → ℕ → ℕ
 row m0 m1 m2 m3 a b c d = m0 • a ⊕ m1 • b ⊕ m2 • c ⊕ m3 • d
 
 -- four terms summed, the last one put first
-turn : (p q r s : ℕ) → p ⊕ q ⊕ r ⊕ s ≡ s ⊕ p ⊕ q ⊕ r
+pub turn : (p q r s : ℕ) → p ⊕ q ⊕ r ⊕ s ≡ s ⊕ p ⊕ q ⊕ r
 turn p q r s =
     ⊕-comm (p ⊕ q ⊕ r) s ∙ sym (⊕-assoc s (p ⊕ q) r) ∙ ap (λ (x : ℕ). x ⊕ r) (sym (⊕-assoc s p q))
 
