@@ -48,7 +48,6 @@ share-bytes m0 m1 m2 m3 y h =
 -- a table of the shares of what f makes of a byte, with the row m0 m1 m2 m3
 module _ (m0 m1 m2 m3 : ℕ) (f : ℕ → ℕ) (f-lt : (k : ℕ) → k < 256 → f k < 256) (t : List ℕ)
     (holds : (k : ℕ) → k < 256 → at t k ≡ share m0 m1 m2 m3 (f k)) where
-
   looked-up : (w r : ℕ)
       → Bytes (at t (byteOf w r)) (m0 • f (byteOf w r)) (m3 • f (byteOf w r)) (m2 • f (byteOf w r)) (m1 • f (byteOf w r))
   looked-up w r =
@@ -58,10 +57,10 @@ module _ (m0 m1 m2 m3 : ℕ) (f : ℕ → ℕ) (f-lt : (k : ℕ) → k < 256 →
   -- a column of the code is the matrix times the column of substituted bytes
   pub shared-bytes : (a b c d : ℕ)
       → Bytes (sharedWord t a b c d)
-        (row m0 m1 m2 m3 (f (byteOf a 0)) (f (byteOf b 1)) (f (byteOf c 2)) (f (byteOf d 3)))
-        (row m0 m1 m2 m3 (f (byteOf b 1)) (f (byteOf c 2)) (f (byteOf d 3)) (f (byteOf a 0)))
-        (row m0 m1 m2 m3 (f (byteOf c 2)) (f (byteOf d 3)) (f (byteOf a 0)) (f (byteOf b 1)))
-        (row m0 m1 m2 m3 (f (byteOf d 3)) (f (byteOf a 0)) (f (byteOf b 1)) (f (byteOf c 2)))
+      (row m0 m1 m2 m3 (f (byteOf a 0)) (f (byteOf b 1)) (f (byteOf c 2)) (f (byteOf d 3)))
+      (row m0 m1 m2 m3 (f (byteOf b 1)) (f (byteOf c 2)) (f (byteOf d 3)) (f (byteOf a 0)))
+      (row m0 m1 m2 m3 (f (byteOf c 2)) (f (byteOf d 3)) (f (byteOf a 0)) (f (byteOf b 1)))
+      (row m0 m1 m2 m3 (f (byteOf d 3)) (f (byteOf a 0)) (f (byteOf b 1)) (f (byteOf c 2)))
   unfolding sharedWord row
   shared-bytes a b c d =
       let p = looked-up a 0 in
@@ -69,24 +68,25 @@ module _ (m0 m1 m2 m3 : ℕ) (f : ℕ → ℕ) (f-lt : (k : ℕ) → k < 256 →
       let u = looked-up c 2 in
       let v = looked-up d 3 in
       let sum = bytes-⊕ (bytes-⊕ (bytes-⊕ p (turned-bytes (at t (byteOf b 1)) 1)) (turned-bytes (at t (byteOf c 2)) 2))
-            (turned-bytes (at t (byteOf d 3)) 3) in
+      (turned-bytes (at t (byteOf d 3)) 3) in
       record {
-          byte0 = sum .byte0 ∙ (λ i. m0 • f (byteOf a 0) ⊕ q .byte3 i ⊕ u .byte2 i ⊕ v .byte1 i);
-          byte1 =
-              sum .byte1 ∙ (λ i. m3 • f (byteOf a 0) ⊕ q .byte0 i ⊕ u .byte3 i ⊕ v .byte2 i)
-              ∙ sym (turn (m0 • f (byteOf b 1)) (m1 • f (byteOf c 2)) (m2 • f (byteOf d 3)) (m3 • f (byteOf a 0)));
-          byte2 =
-              sum .byte2 ∙ (λ i. m2 • f (byteOf a 0) ⊕ q .byte1 i ⊕ u .byte0 i ⊕ v .byte3 i)
-              ∙ turn (m2 • f (byteOf a 0)) (m3 • f (byteOf b 1)) (m0 • f (byteOf c 2)) (m1 • f (byteOf d 3))
-              ∙ turn (m1 • f (byteOf d 3)) (m2 • f (byteOf a 0)) (m3 • f (byteOf b 1)) (m0 • f (byteOf c 2));
-          byte3 =
-              sum .byte3 ∙ (λ i. m1 • f (byteOf a 0) ⊕ q .byte2 i ⊕ u .byte1 i ⊕ v .byte0 i)
-              ∙ turn (m1 • f (byteOf a 0)) (m2 • f (byteOf b 1)) (m3 • f (byteOf c 2)) (m0 • f (byteOf d 3)) }
+        byte0 = sum .byte0 ∙ (λ i. m0 • f (byteOf a 0) ⊕ q .byte3 i ⊕ u .byte2 i ⊕ v .byte1 i);
+        byte1 =
+            sum .byte1 ∙ (λ i. m3 • f (byteOf a 0) ⊕ q .byte0 i ⊕ u .byte3 i ⊕ v .byte2 i)
+            ∙ sym (turn (m0 • f (byteOf b 1)) (m1 • f (byteOf c 2)) (m2 • f (byteOf d 3)) (m3 • f (byteOf a 0)));
+        byte2 =
+            sum .byte2 ∙ (λ i. m2 • f (byteOf a 0) ⊕ q .byte1 i ⊕ u .byte0 i ⊕ v .byte3 i)
+            ∙ turn (m2 • f (byteOf a 0)) (m3 • f (byteOf b 1)) (m0 • f (byteOf c 2)) (m1 • f (byteOf d 3))
+            ∙ turn (m1 • f (byteOf d 3)) (m2 • f (byteOf a 0)) (m3 • f (byteOf b 1)) (m0 • f (byteOf c 2));
+        byte3 =
+            sum .byte3 ∙ (λ i. m1 • f (byteOf a 0) ⊕ q .byte2 i ⊕ u .byte1 i ⊕ v .byte0 i)
+            ∙ turn (m1 • f (byteOf a 0)) (m2 • f (byteOf b 1)) (m3 • f (byteOf c 2)) (m0 • f (byteOf d 3));
+      }
 
 -- a full round of the code is the round
 pub mixed-round : (t w : List ℕ) (r a b c d : ℕ) → Table 256 mixedEntry t
     → fourWords (sharedWord t a b c d ⊕ at w (r * 4)) (sharedWord t b c d a ⊕ at w (r * 4 + 1))
-      (sharedWord t c d a b ⊕ at w (r * 4 + 2)) (sharedWord t d a b c ⊕ at w (r * 4 + 3))
+    (sharedWord t c d a b ⊕ at w (r * 4 + 2)) (sharedWord t d a b c ⊕ at w (r * 4 + 3))
     ≡ round w r (fourWords a b c d)
 unfolding round addRoundKey mixColumns mixWith shiftRows subBytes mixedEntry row
 mixed-round t w r a b c d h =
@@ -97,7 +97,7 @@ mixed-round t w r a b c d h =
 -- a full round of the code's inverse cipher
 pub unmixed-round : (t w : List ℕ) (r a b c d : ℕ) → Table 256 unmixedEntry t
     → fourWords (sharedWord t a d c b ⊕ at w (r * 4)) (sharedWord t b a d c ⊕ at w (r * 4 + 1))
-      (sharedWord t c b a d ⊕ at w (r * 4 + 2)) (sharedWord t d c b a ⊕ at w (r * 4 + 3))
+    (sharedWord t c b a d ⊕ at w (r * 4 + 2)) (sharedWord t d c b a ⊕ at w (r * 4 + 3))
     ≡ addRoundKey w r (invMixColumns (invSubBytes (invShiftRows (fourWords a b c d))))
 unfolding addRoundKey invMixColumns mixWith invShiftRows invSubBytes unmixedEntry row
 unmixed-round t w r a b c d h =
@@ -111,15 +111,19 @@ module _ (f : ℕ → ℕ) (f-lt : (k : ℕ) → k < 256 → f k < 256) (t : Lis
       → Bytes (substitutedWord t a b c d) (f (byteOf a 0)) (f (byteOf b 1)) (f (byteOf c 2)) (f (byteOf d 3))
   unfolding substitutedWord
   substituted-bytes a b c d =
-      rw (holds .entry (byteOf a 0) (byteOf-lt a 0), holds .entry (byteOf b 1) (byteOf-lt b 1),
-          holds .entry (byteOf c 2) (byteOf-lt c 2), holds .entry (byteOf d 3) (byteOf-lt d 3))
+      rw (
+        holds .entry (byteOf a 0) (byteOf-lt a 0),
+        holds .entry (byteOf b 1) (byteOf-lt b 1),
+        holds .entry (byteOf c 2) (byteOf-lt c 2),
+        holds .entry (byteOf d 3) (byteOf-lt d 3),
+      )
       (word-bytes (f (byteOf a 0)) (f (byteOf b 1)) (f (byteOf c 2)) (f (byteOf d 3)) (f-lt _ (byteOf-lt a 0)) (f-lt _ (byteOf-lt b 1))
       (f-lt _ (byteOf-lt c 2)) (f-lt _ (byteOf-lt d 3)))
 
 -- the last round of the code is the last round
 pub last-round : (t w : List ℕ) (a b c d : ℕ) → Table 256 subByte t
     → fourWords (substitutedWord t a b c d ⊕ at w 40) (substitutedWord t b c d a ⊕ at w 41)
-      (substitutedWord t c d a b ⊕ at w 42) (substitutedWord t d a b c ⊕ at w 43)
+    (substitutedWord t c d a b ⊕ at w 42) (substitutedWord t d a b c ⊕ at w 43)
     ≡ addRoundKey w 10 (shiftRows (subBytes (fourWords a b c d)))
 unfolding addRoundKey shiftRows subBytes
 last-round t w a b c d h =
@@ -130,7 +134,7 @@ last-round t w a b c d h =
 -- the last round of the code's inverse cipher
 pub inv-last-round : (t w : List ℕ) (a b c d : ℕ) → Table 256 invSubByte t
     → fourWords (substitutedWord t a d c b ⊕ at w 0) (substitutedWord t b a d c ⊕ at w 1)
-      (substitutedWord t c b a d ⊕ at w 2) (substitutedWord t d c b a ⊕ at w 3)
+    (substitutedWord t c b a d ⊕ at w 2) (substitutedWord t d c b a ⊕ at w 3)
     ≡ addRoundKey w 0 (invSubBytes (invShiftRows (fourWords a b c d)))
 unfolding addRoundKey invShiftRows invSubBytes
 inv-last-round t w a b c d h =

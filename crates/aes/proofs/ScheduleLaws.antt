@@ -52,12 +52,12 @@ words-four n r x y h =
     fourth (suc (suc (suc n))) (r * 4 + 4) (x .a) (x .b) (x .c) (x .d) (y .a) (omega arith)
     (h .first ∙ ap (λ (k : ℕ). x .a ⊕ (subWord (rotWord (x .d)) ⊕ rcon k)) (omega arith))
     ∙ ap (λ (l : List ℕ). y .a ∷ l)
-      (other (suc (suc n)) (suc (r * 4 + 4)) (x .b) (x .c) (x .d) (y .a) (y .b) (omega arith) (h .second)
-      ∙ ap (λ (l : List ℕ). y .b ∷ l)
-        (other (suc n) (suc (suc (r * 4 + 4))) (x .c) (x .d) (y .a) (y .b) (y .c) (omega arith) (h .third)
-        ∙ ap (λ (l : List ℕ). y .c ∷ l)
-          (other n (suc (suc (suc (r * 4 + 4)))) (x .d) (y .a) (y .b) (y .c) (y .d) (omega arith) (h .fourth)
-          ∙ ap (λ (i : ℕ). y .d ∷ wordsFrom n i (y .a) (y .b) (y .c) (y .d)) (omega arith))))
+    (other (suc (suc n)) (suc (r * 4 + 4)) (x .b) (x .c) (x .d) (y .a) (y .b) (omega arith) (h .second)
+    ∙ ap (λ (l : List ℕ). y .b ∷ l)
+    (other (suc n) (suc (suc (r * 4 + 4))) (x .c) (x .d) (y .a) (y .b) (y .c) (omega arith) (h .third)
+    ∙ ap (λ (l : List ℕ). y .c ∷ l)
+    (other n (suc (suc (suc (r * 4 + 4)))) (x .d) (y .a) (y .b) (y .c) (y .d) (omega arith) (h .fourth)
+    ∙ ap (λ (i : ℕ). y .d ∷ wordsFrom n i (y .a) (y .b) (y .c) (y .d)) (omega arith))))
 
 -- four words laid down behind what was laid before
 laid : (w : List ℕ) (k a b c d : ℕ) → length w ≡ 44 → k + 4 ≤ 44
@@ -66,7 +66,7 @@ laid w k a b c d len fits =
     let vs : List ℕ = a ∷ b ∷ c ∷ d ∷ [] in
     ap (take (k + 4)) (rw (add-one, add-two, add-three) (sets-eq vs w k (omega arith)))
     ∙ take-at (take k w ++ vs) (drop (k + 4) w) (k + 4)
-      (length-append (take k w) vs ∙ ap (λ (n : ℕ). n + 4) (length-take-le k w (omega arith)))
+    (length-append (take k w) vs ∙ ap (λ (n : ℕ). n + 4) (length-take-le k w (omega arith)))
 
 -- the first r + 1 round keys are laid down, and x is the last of them
 pub record LaidTo (key : List ℕ) (r : ℕ) (w : List ℕ) (x : Columns) : Type 0 where
@@ -79,10 +79,11 @@ pub laid-first : (key w : List ℕ) (x : Columns) → length w ≡ 44 → Loaded
 unfolding keyExpansion
 laid-first key w x len h =
     record {
-        size = simp length-set len;
-        rest =
-            ap (λ (l : List ℕ). l ++ wordsFrom 40 4 (x .a) (x .b) (x .c) (x .d)) (laid w 0 (x .a) (x .b) (x .c) (x .d) len (omega arith))
-            ∙ rw (h .first, h .second, h .third, h .fourth) }
+      size = simp length-set len;
+      rest =
+          ap (λ (l : List ℕ). l ++ wordsFrom 40 4 (x .a) (x .b) (x .c) (x .d)) (laid w 0 (x .a) (x .b) (x .c) (x .d) len (omega arith))
+          ∙ rw (h .first, h .second, h .third, h .fourth);
+    }
 
 -- a round key more
 pub laid-next : (key w : List ℕ) (r : ℕ) (x y : Columns) → r < 10 → NextKey x (rcon (r + 1)) y → LaidTo key r w x
@@ -93,18 +94,27 @@ laid-next key w r x y lt h before =
     let place : (r + 1) * 4 + 4 ≡ r * 4 + 8 = omega arith in
     let so-far : (r + 1) * 4 ≡ r * 4 + 4 = omega arith in
     record {
-        size = simp length-set (before .size);
-        rest =
-            ap₂ (λ (l m : List ℕ). l ++ m)
-            (laid w ((r + 1) * 4) (y .a) (y .b) (y .c) (y .d) (before .size) (omega arith))
-            (ap₂ (λ (n i : ℕ). wordsFrom n i (y .a) (y .b) (y .c) (y .d)) left place)
-            ∙ append-assoc (take ((r + 1) * 4) w) (y .a ∷ y .b ∷ y .c ∷ y .d ∷ []) (wordsFrom (36 - r * 4) (r * 4 + 8) (y .a) (y .b) (y .c) (y .d))
-            ∙ ap₂ (λ (n : ℕ) (m : List ℕ). take n w ++ m) so-far
-              (sym (words-four (36 - r * 4) r x y h)
-              ∙ ap (λ (n : ℕ). wordsFrom n (r * 4 + 4) (x .a) (x .b) (x .c) (x .d)) four)
-            ∙ before .rest }
+      size = simp length-set (before .size);
+      rest =
+          ap₂ (λ (l m : List ℕ). l ++ m)
+          (laid w ((r + 1) * 4) (y .a) (y .b) (y .c) (y .d) (before .size) (omega arith))
+          (ap₂ (λ (n i : ℕ). wordsFrom n i (y .a) (y .b) (y .c) (y .d)) left place)
+          ∙ append-assoc (take ((r + 1) * 4) w) (y .a ∷ y .b ∷ y .c ∷ y .d ∷ []) (wordsFrom (36 - r * 4) (r * 4 + 8) (y .a) (y .b) (y .c) (y .d))
+          ∙ ap₂ (λ (n : ℕ) (m : List ℕ). take n w ++ m) so-far
+          (sym (words-four (36 - r * 4) r x y h)
+          ∙ ap (λ (n : ℕ). wordsFrom n (r * 4 + 4) (x .a) (x .b) (x .c) (x .d)) four)
+          ∙ before .rest;
+    }
 
 -- the end: all of the schedule
-pub laid-all : (key w : List ℕ) (x : Columns) → LaidTo key 10 w x → w ≡ keyExpansion key
+pub laid-all : (key w : List ℕ) (r : ℕ) (x : Columns) → r ≡ 10 → LaidTo key r w x → w ≡ keyExpansion key
 unfolding wordsFrom
-laid-all key w x h = sym (append-nil w) ∙ ap (λ (l : List ℕ). l ++ []) (sym (take-all 44 w (omega (arith, h .size)))) ∙ h .rest
+laid-all key w r x ten h = all (rw ten at h)
+  where
+    all : LaidTo key 10 w x → w ≡ keyExpansion key
+    all h = sym (append-nil w) ∙ ap (λ (l : List ℕ). l ++ []) (sym (take-all 44 w (omega (arith, h .size)))) ∙ h .rest
+
+-- the code's table of round constants holds Rcon[1], Rcon[2], ..
+pub with-constant : (constants : List ℕ) (r : ℕ) (x y : Columns) → Table 10 (λ k. rcon (k + 1)) constants → r < 10
+    → NextKey x (at constants r) y → NextKey x (rcon (r + 1)) y
+with-constant constants r x y t lt h = rw (t .entry r lt) at h

@@ -73,19 +73,21 @@ pub bytes-⊕ : {w a b c d w' a' b' c' d' : ℕ} → Bytes w a b c d → Bytes w
     → Bytes (w ⊕ w') (a ⊕ a') (b ⊕ b') (c ⊕ c') (d ⊕ d')
 bytes-⊕ {w} {a} {b} {c} {d} {w'} x y =
     record {
-        byte0 = byteOf-⊕ w w' 0 ∙ ap₂ _⊕_ (x .byte0) (y .byte0);
-        byte1 = byteOf-⊕ w w' 1 ∙ ap₂ _⊕_ (x .byte1) (y .byte1);
-        byte2 = byteOf-⊕ w w' 2 ∙ ap₂ _⊕_ (x .byte2) (y .byte2);
-        byte3 = byteOf-⊕ w w' 3 ∙ ap₂ _⊕_ (x .byte3) (y .byte3) }
+      byte0 = byteOf-⊕ w w' 0 ∙ ap₂ _⊕_ (x .byte0) (y .byte0);
+      byte1 = byteOf-⊕ w w' 1 ∙ ap₂ _⊕_ (x .byte1) (y .byte1);
+      byte2 = byteOf-⊕ w w' 2 ∙ ap₂ _⊕_ (x .byte2) (y .byte2);
+      byte3 = byteOf-⊕ w w' 3 ∙ ap₂ _⊕_ (x .byte3) (y .byte3);
+    }
 
 -- a word's bytes, taken from a word that equals it
 pub bytes-of : {w v : ℕ} → w ≡ v → Bytes w (byteOf v 0) (byteOf v 1) (byteOf v 2) (byteOf v 3)
 bytes-of e =
     record {
-        byte0 = ap (λ (x : ℕ). byteOf x 0) e;
-        byte1 = ap (λ (x : ℕ). byteOf x 1) e;
-        byte2 = ap (λ (x : ℕ). byteOf x 2) e;
-        byte3 = ap (λ (x : ℕ). byteOf x 3) e }
+      byte0 = ap (λ (x : ℕ). byteOf x 0) e;
+      byte1 = ap (λ (x : ℕ). byteOf x 1) e;
+      byte2 = ap (λ (x : ℕ). byteOf x 2) e;
+      byte3 = ap (λ (x : ℕ). byteOf x 3) e;
+    }
 
 -- the sixteen bytes of four words, as the code takes them
 pub block-is : (a b c d : ℕ)

@@ -2,7 +2,6 @@
 use mathlib.Core.List.{List}
 use mathlib.Core.Path.{_≡_}
 use Prim.Native.Nat.{ℕ, zero, suc, _-_, _<_, _≤_}
-use lib.ListN.{length}
 use Rattle.aes.specs.State.{at, byteOf, addRoundKey, invSubBytes, invShiftRows, invMixColumns}
 use Rattle.aes.specs.Words.{fourWords}
 
@@ -13,22 +12,21 @@ pub record Unmixed (w v : ℕ) : Type 0 where
   pub byte2 : byteOf v 2 ≡ at (invMixColumns (fourWords w 0 0 0)) 2
   pub byte3 : byteOf v 3 ≡ at (invMixColumns (fourWords w 0 0 0)) 3
 
--- The schedule w, with InvMixColumns of those of its words that stand from place 4 up to place n.
-pub record UnmixedTo (n : ℕ) (w v : List ℕ) : Type 0 where
-  pub size : length v ≡ 44
-  pub first : (i : ℕ) → i < 4 → at v i ≡ at w i
-  pub inner : (i : ℕ) → 4 ≤ i → i < n → Unmixed (at w i) (at v i)
-  pub rest : (i : ℕ) → n ≤ i → i < 44 → at v i ≡ at w i
+-- Word i of the inverse cipher's keys: the schedule's own word, but InvMixColumns of it in round keys 1 to 9.
+pub record InverseKey (w : List ℕ) (i v : ℕ) : Type 0 where
+  pub first : i < 4 → v ≡ at w i
+  pub inner : 4 ≤ i → i < 40 → Unmixed (at w i) v
+  pub last : 40 ≤ i → v ≡ at w i
 
--- The round keys of the equivalent inverse cipher: those of the schedule w, with InvMixColumns of round keys 1 to 9.
-abbrev pub InverseKeys : List ℕ → List ℕ → Type 0
-InverseKeys w v = UnmixedTo 40 w v
+-- The words of the inverse cipher's keys, as far as word n.
+pub record InverseKeys (n : ℕ) (w v : List ℕ) : Type 0 where
+  pub key : (i : ℕ) → i < n → InverseKey w i (at v i)
 
--- The block with round key 10 added, and n full rounds with the keys v.
+-- The first n full rounds with the keys v, with round keys 9, 8, ..
 unfoldable pub eqRounds : List ℕ → ℕ → List ℕ → List ℕ
-eqRounds v zero s = addRoundKey v 10 s
+eqRounds v zero s = s
 eqRounds v (suc n) s = addRoundKey v (9 - n) (invMixColumns (invSubBytes (invShiftRows (eqRounds v n s))))
 
--- EqInvCipher: nine full rounds, and a last one that mixes no columns.
+-- EqInvCipher: round key 10 is added, nine full rounds follow, and a last one that mixes no columns.
 unfoldable pub eqInvCipher : List ℕ → List ℕ → List ℕ
-eqInvCipher v s = addRoundKey v 0 (invSubBytes (invShiftRows (eqRounds v 9 s)))
+eqInvCipher v s = addRoundKey v 0 (invSubBytes (invShiftRows (eqRounds v 9 (addRoundKey v 10 s))))

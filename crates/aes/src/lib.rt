@@ -30,7 +30,12 @@ pub fn encipher(w: &[u32; 44], block: &[u8; 16]) -> [u8; 16]
 }
 
 // Cipher on columns, through the tables that the caller lends.
-fn encipher_columns(t: &[u32; 256], s: &[u8; 256], w: &[u32; 44], block: columns::Columns) -> columns::Columns
+fn encipher_columns(
+    t: &[u32; 256],
+    s: &[u8; 256],
+    w: &[u32; 44],
+    block: columns::Columns,
+) -> columns::Columns
     requires { ⌜ Table 256 mixedEntry (now t) ⌝ }
     requires { ⌜ Table 256 subByte (now s) ⌝ }
     ensures { λ r. ⌜ blockOf r ≡ cipher (now (w .entry)) (blockOf block) ⌝ }
@@ -58,7 +63,12 @@ pub fn decipher(key: &[u8; 16], block: &[u8; 16]) -> [u8; 16]
 }
 
 // InvCipher on columns, under the keys of the equivalent inverse cipher and through the tables that the caller lends.
-fn decipher_columns(t: &[u32; 256], s: &[u8; 256], v: &[u32; 44], block: columns::Columns) -> columns::Columns
+fn decipher_columns(
+    t: &[u32; 256],
+    s: &[u8; 256],
+    v: &[u32; 44],
+    block: columns::Columns,
+) -> columns::Columns
     requires { ⌜ Table 256 unmixedEntry (now t) ⌝ }
     requires { ⌜ Table 256 invSubByte (now s) ⌝ }
     ensures { λ r. ⌜ blockOf r ≡ eqInvCipher (now (v .entry)) (blockOf block) ⌝ }

@@ -1,7 +1,6 @@
 // The rounds of the cipher and of its inverse on columns, through tables that the caller lends.
 use crate::columns;
 use crate::columns::Columns;
-
 ghost use mathlib.Core.Path.{_≡_};
 ghost use Prim.Native.Nat.{_≤_};
 ghost use Rattle.field.specs.Field.{_⊕_, subByte, invSubByte};

@@ -40,8 +40,8 @@ row-four : (n0 n1 n2 n3 a b c d a' b' c' d' a'' b'' c'' d'' e f g h : ℕ)
 row-four n0 n1 n2 n3 a b c d a' b' c' d' a'' b'' c'' d'' e f g h =
     row-⊕ n0 n1 n2 n3 (a ⊕ a' ⊕ a'') (b ⊕ b' ⊕ b'') (c ⊕ c' ⊕ c'') (d ⊕ d' ⊕ d'') e f g h
     ∙ ap (λ (x : ℕ). x ⊕ row n0 n1 n2 n3 e f g h)
-      (row-⊕ n0 n1 n2 n3 (a ⊕ a') (b ⊕ b') (c ⊕ c') (d ⊕ d') a'' b'' c'' d''
-      ∙ ap (λ (x : ℕ). x ⊕ row n0 n1 n2 n3 a'' b'' c'' d'') (row-⊕ n0 n1 n2 n3 a b c d a' b' c' d'))
+    (row-⊕ n0 n1 n2 n3 (a ⊕ a') (b ⊕ b') (c ⊕ c') (d ⊕ d') a'' b'' c'' d''
+    ∙ ap (λ (x : ℕ). x ⊕ row n0 n1 n2 n3 a'' b'' c'' d'') (row-⊕ n0 n1 n2 n3 a b c d a' b' c' d'))
 
 -- the rows n and m undo each other where the products of their matrices, at each place of the first row, are 1 0 0 0
 pub record UndoRow (n0 n1 n2 n3 m0 m1 m2 m3 : ℕ) : Type 0 where
@@ -59,10 +59,10 @@ module _ (n0 n1 n2 n3 m0 m1 m2 m3 : ℕ) (undo : UndoRow n0 n1 n2 n3 m0 m1 m2 m3
   unfolding row
   split a b c d =
       (λ i. row n0 n1 n2 n3 (row m0 m1 m2 m3 a b c d) (turn (m0 • b) (m1 • c) (m2 • d) (m3 • a) i)
-          ((turn (m0 • c) (m1 • d) (m2 • a) (m3 • b) ∙ turn (m3 • b) (m0 • c) (m1 • d) (m2 • a)) i)
-          (sym (turn (m1 • a) (m2 • b) (m3 • c) (m0 • d)) i))
+      ((turn (m0 • c) (m1 • d) (m2 • a) (m3 • b) ∙ turn (m3 • b) (m0 • c) (m1 • d) (m2 • a)) i)
+      (sym (turn (m1 • a) (m2 • b) (m3 • c) (m0 • d)) i))
       ∙ row-four n0 n1 n2 n3 (m0 • a) (m3 • a) (m2 • a) (m1 • a) (m1 • b) (m0 • b) (m3 • b) (m2 • b)
-          (m2 • c) (m1 • c) (m0 • c) (m3 • c) (m3 • d) (m2 • d) (m1 • d) (m0 • d)
+      (m2 • c) (m1 • c) (m0 • c) (m3 • c) (m3 • d) (m2 • d) (m1 • d) (m0 • d)
 
   pub undo-row : (a b c d : ℕ) → a < 256 → b < 256 → c < 256 → d < 256
       → row n0 n1 n2 n3 (row m0 m1 m2 m3 a b c d) (row m0 m1 m2 m3 b c d a) (row m0 m1 m2 m3 c d a b) (row m0 m1 m2 m3 d a b c) ≡ a
@@ -82,7 +82,8 @@ pub unmix-mix : UndoRow 14 11 13 9 2 3 1 1
 unfolding row _⊕_ xtimes productBy _•_
 unmix-mix =
     record {
-        one = same-on-bytes (λ x. row 14 11 13 9 (2 • x) (1 • x) (1 • x) (3 • x)) (λ x. x) tt;
-        zero1 = same-on-bytes (λ x. row 14 11 13 9 (3 • x) (2 • x) (1 • x) (1 • x)) (λ x. 0) tt;
-        zero2 = same-on-bytes (λ x. row 14 11 13 9 (1 • x) (3 • x) (2 • x) (1 • x)) (λ x. 0) tt;
-        zero3 = same-on-bytes (λ x. row 14 11 13 9 (1 • x) (1 • x) (3 • x) (2 • x)) (λ x. 0) tt }
+      one = same-on-bytes (λ x. row 14 11 13 9 (2 • x) (1 • x) (1 • x) (3 • x)) (λ x. x) tt;
+      zero1 = same-on-bytes (λ x. row 14 11 13 9 (3 • x) (2 • x) (1 • x) (1 • x)) (λ x. 0) tt;
+      zero2 = same-on-bytes (λ x. row 14 11 13 9 (1 • x) (3 • x) (2 • x) (1 • x)) (λ x. 0) tt;
+      zero3 = same-on-bytes (λ x. row 14 11 13 9 (1 • x) (1 • x) (3 • x) (2 • x)) (λ x. 0) tt;
+    }

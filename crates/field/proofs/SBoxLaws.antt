@@ -19,8 +19,9 @@ module _ (f g : ℕ → ℕ) where
   tested : ((k : ℕ) → k < 256 → T (undoes k)) → Undoes f g
   tested t =
       record {
-          byte = λ k h. ltb→lt (g k) 256 (both-left (ltb (g k) 256) (eqb (f (g k)) k) (t k h));
-          undone = λ k h. eqb→eq (f (g k)) k (both-right (ltb (g k) 256) (eqb (f (g k)) k) (t k h)) }
+        byte = λ k h. ltb→lt (g k) 256 (both-left (ltb (g k) 256) (eqb (f (g k)) k) (t k h));
+        undone = λ k h. eqb→eq (f (g k)) k (both-right (ltb (g k) 256) (eqb (f (g k)) k) (t k h));
+      }
 
 pub sub-undone : Undoes invSubByte subByte
 unfolding _⊕_ xtimes productBy _•_ inverse digit fromDigits affine invAffine subByte invSubByte

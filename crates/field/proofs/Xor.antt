@@ -65,12 +65,12 @@ xor-assoc : (a b c : ℕ) → bitXor (bitXor a b) c ≡ bitXor a (bitXor b c)
 xor-assoc =
     bin-ind (λ (a : ℕ). (b c : ℕ) → bitXor (bitXor a b) c ≡ bitXor a (bitXor b c)) (λ b c. refl)
     (λ a ih b c.
-        xor-step (bitXor a b) c
-        ∙ ap₂ (λ (x y : ℕ). x * 2 + y)
-          (ap (λ (x : ℕ). bitXor x (c / 2)) (xor-shr a b 1) ∙ ih (b / 2) (c / 2)
-          ∙ ap (λ (x : ℕ). bitXor (a / 2) x) (sym (xor-shr b c 1)))
-          (low-assoc a b c)
-        ∙ sym (xor-step a (bitXor b c)))
+    xor-step (bitXor a b) c
+    ∙ ap₂ (λ (x y : ℕ). x * 2 + y)
+    (ap (λ (x : ℕ). bitXor x (c / 2)) (xor-shr a b 1) ∙ ih (b / 2) (c / 2)
+    ∙ ap (λ (x : ℕ). bitXor (a / 2) x) (sym (xor-shr b c 1)))
+    (low-assoc a b c)
+    ∙ sym (xor-step a (bitXor b c)))
 
 pub ⊕-assoc : (a b c : ℕ) → a ⊕ b ⊕ c ≡ a ⊕ (b ⊕ c)
 unfolding _⊕_

@@ -4,7 +4,6 @@ use lib.Bits.{bitXor}
 
 infixl 65 _⊕_
 infixl 70 _•_
-
 -- The sum of two elements: the exclusive or of their digits (4.1).
 unfoldable pub _⊕_ : ℕ → ℕ → ℕ
 a ⊕ b = bitXor a b
