@@ -1,7 +1,9 @@
 -- The state of AES, sixteen bytes column by column, and the four transformations with their inverses (FIPS 197, sections 3.4, 5.1 and 5.3).
 use mathlib.Core.List.{List, [], _∷_}
 use Prim.Native.Nat.{ℕ, _+_, _-_, _*_, _/_, _%_, _^_}
-use lib.ListN.{getD}
+use mathlib.Core.Path.{_≡_}
+use lib.ListN.{length, getD}
+use Rattle.lists.specs.Bytes.{Bytes}
 use Rattle.field.specs.Field.{_⊕_, _•_, subByte, invSubByte}
 
 -- Byte i of a list of bytes.
@@ -16,6 +18,15 @@ state f =
 -- Byte r of a word of four bytes, the first one highest (3.5).
 unfoldable pub byteOf : ℕ → ℕ → ℕ
 byteOf w r = w / 2 ^ (8 * (3 - r)) % 256
+
+-- The sum of two blocks, byte by byte.
+unfoldable pub plus : List ℕ → List ℕ → List ℕ
+plus a b = state (λ i. at a i ⊕ at b i)
+
+-- A block of sixteen bytes (3.3).
+pub record Block (b : List ℕ) : Type 0 where
+  pub size : length b ≡ 16
+  pub bytes : Bytes b
 
 -- The place j rows below place i, in the same column and counted round.
 abbrev pub below : ℕ → ℕ → ℕ
