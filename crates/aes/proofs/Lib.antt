@@ -5,3 +5,5 @@ pub mod InverseLaws
 pub mod CipherLaws
 pub mod StateLaws
 pub mod RoundTrip
+pub mod ChainLaws
+pub mod ChainTrip

@@ -6,7 +6,7 @@ use native.Mathlib.Omega.{arith}
 use Rattle.lists.specs.Bytes.{Bytes}
 use Rattle.aes.specs.State.{at, state, Block, subBytes, shiftRows, mixWith, mixColumns, addRoundKey, invSubBytes, invShiftRows, invMixColumns}
 use Rattle.aes.specs.Cipher.{round, rounds, cipher, invRound, invRounds, invCipher}
-use Rattle.aes.proofs.StateLaws.{block-state, addRoundKey-block, addRoundKey-again, subBytes-block, shiftRows-block, mixWith-block, rows-bytes-undone, mixColumns-undone}
+use Rattle.aes.proofs.StateLaws.{block-state, addRoundKey-block, addRoundKey-again, subBytes-block, shiftRows-block, invSubBytes-block, invShiftRows-block, mixWith-block, rows-bytes-undone, mixColumns-undone}
 
 -- SubBytes, then ShiftRows
 abbrev moved : List ℕ → List ℕ
@@ -74,3 +74,19 @@ invCipher-cipher w b h =
     (addRoundKey-again w 10 last ∙ block-state last (moved-block (rounds w 9 s) (rounds-bytes w 9 s hs)))
     ∙ ap (λ (z : List ℕ). addRoundKey w 0 (invSubBytes (invShiftRows z))) (rounds-undone w s hs 9 0 refl)
     ∙ ap (addRoundKey w 0) (rows-bytes-undone (rounds w 0 s) (rounds-bytes w 0 s hs)) ∙ first w s ∙ addRoundKey-again w 0 b ∙ block-state b h
+
+invRounds-bytes : (w : List ℕ) (n : ℕ) (s : List ℕ) → Bytes s → Bytes (invRounds w n s)
+unfolding invRounds invRound invMixColumns
+invRounds-bytes w zero s h = h
+invRounds-bytes w (suc n) s h =
+    let x = invShiftRows (invRounds w n s) in
+    let hx = invSubBytes-block x (invShiftRows-block (invRounds w n s) (invRounds-bytes w n s h) .bytes) .bytes in
+    mixWith-block 14 11 13 9 (addRoundKey w (9 - n) (invSubBytes x)) (addRoundKey-block w (9 - n) (invSubBytes x) hx .bytes) .bytes
+
+-- the inverse cipher of a block is a block
+pub invCipher-block : (w b : List ℕ) → Bytes b → Block (invCipher w b)
+unfolding invCipher
+invCipher-block w b h =
+    let x = invRounds w 9 (addRoundKey w 10 b) in
+    let hx = invRounds-bytes w 9 (addRoundKey w 10 b) (addRoundKey-block w 10 b h .bytes) in
+    addRoundKey-block w 0 (invSubBytes (invShiftRows x)) (invSubBytes-block (invShiftRows x) (invShiftRows-block x hx .bytes) .bytes)

@@ -1,7 +1,7 @@
 -- States of bytes: each transformation keeps bytes bytes, and its inverse undoes it.
 use mathlib.Core.Path.{_≡_, refl, sym, ap, _∙_}
 use mathlib.Core.List.{List, [], _∷_}
-use Prim.Native.Nat.{ℕ, zero, suc, _+_, _*_, _/_, _%_, _<_}
+use Prim.Native.Nat.{ℕ, zero, suc, _+_, _-_, _*_, _/_, _%_, _<_}
 use native.Mathlib.Omega.{arith}
 use lib.ListN.{length, getD}
 use Rattle.lists.specs.Bytes.{Bytes}
@@ -67,6 +67,10 @@ invSubBytes-block s h = state-block (λ i. invSubByte (at s i)) (λ i. invSub-un
 pub shiftRows-block : (s : List ℕ) → Bytes s → Block (shiftRows s)
 unfolding shiftRows
 shiftRows-block s h = state-block (λ i. at s ((i + i % 4 * 4) % 16)) (λ i. h .byte _)
+
+pub invShiftRows-block : (s : List ℕ) → Bytes s → Block (invShiftRows s)
+unfolding invShiftRows
+invShiftRows-block s h = state-block (λ i. at s ((i + (4 - i % 4) * 4) % 16)) (λ i. h .byte _)
 
 -- SubBytes and ShiftRows are undone by their inverses, in this order
 pub rows-bytes-undone : (s : List ℕ) → Bytes s → invSubBytes (invShiftRows (shiftRows (subBytes s))) ≡ state (at s)

@@ -1,7 +1,9 @@
 -- The equivalent inverse cipher (FIPS 197, section 5.3.5): its round keys, with InvMixColumns of round keys 1 to 9, and its rounds.
 use mathlib.Core.List.{List}
 use mathlib.Core.Path.{_≡_}
-use Prim.Native.Nat.{ℕ, zero, suc, _-_, _<_, _≤_}
+use Prim.Native.Nat.{ℕ, zero, suc, _-_, _/_, _<_, _≤_}
+use lib.ListN.{length}
+use Rattle.aes.specs.Chain.{unchained}
 use Rattle.aes.specs.State.{at, byteOf, addRoundKey, invSubBytes, invShiftRows, invMixColumns}
 use Rattle.aes.specs.Words.{fourWords}
 
@@ -30,3 +32,7 @@ eqRounds v (suc n) s = addRoundKey v (9 - n) (invMixColumns (invSubBytes (invShi
 -- EqInvCipher: round key 10 is added, nine full rounds follow, and a last one that mixes no columns.
 unfoldable pub eqInvCipher : List ℕ → List ℕ → List ℕ
 eqInvCipher v s = addRoundKey v 0 (invSubBytes (invShiftRows (eqRounds v 9 (addRoundKey v 10 s))))
+
+-- CBC decryption by the equivalent inverse cipher.
+unfoldable pub eqDecrypt : List ℕ → List ℕ → List ℕ → List ℕ
+eqDecrypt v iv l = unchained (eqInvCipher v) (length l / 16) iv l

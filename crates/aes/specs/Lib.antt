@@ -2,5 +2,6 @@
 pub mod State
 pub mod Schedule
 pub mod Cipher
+pub mod Chain
 pub mod Words
 pub mod Inverse

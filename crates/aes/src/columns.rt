@@ -1,5 +1,8 @@
 // A state as four words, one for each column, and the ways between words and bytes.
 ghost use mathlib.Core.Path.{_≡_};
+ghost use Prim.Native.Nat.{_+_, _≤_};
+ghost use lib.ListN.{length};
+ghost use Rattle.lists.specs.Parts.{putAt};
 ghost use Rattle.field.specs.Field.{_⊕_};
 ghost use Rattle.aes.specs.State.{at, state};
 ghost use Rattle.aes.specs.Words.{Word, Loaded, turned, blockOf};
@@ -97,4 +100,40 @@ pub(crate) fn plus(x: Columns, y: Columns) -> Columns
         c: x.c ^ y.c,
         d: x.d ^ y.d,
     }
+}
+
+// The columns of the sixteen bytes that stand from place k on.
+pub(crate) fn columns_at(b: &[u8], k: usize) -> Columns
+    requires { ⌜ k + 16 ≤ length (now b) ⌝ }
+    ensures { λ r. ⌜ blockOf r ≡ state (λ i. at (now (b .entry)) (k + i)) ⌝ }
+{
+    Columns {
+        a: word_of(b[k], b[k + 1], b[k + 2], b[k + 3]),
+        b: word_of(b[k + 4], b[k + 5], b[k + 6], b[k + 7]),
+        c: word_of(b[k + 8], b[k + 9], b[k + 10], b[k + 11]),
+        d: word_of(b[k + 12], b[k + 13], b[k + 14], b[k + 15]),
+    }
+}
+
+// Lays the sixteen bytes of a block's columns down from place k on.
+pub(crate) fn store(x: Columns, b: &mut [u8], k: usize)
+    requires { ⌜ k + 16 ≤ length (now b) ⌝ }
+    ensures { λ _. ⌜ now (b .exit) ≡ putAt k 16 (blockOf x) (now (b .entry)) ⌝ }
+{
+    b[k] = (x.a / 16777216 % 256) as u8;
+    b[k + 1] = (x.a / 65536 % 256) as u8;
+    b[k + 2] = (x.a / 256 % 256) as u8;
+    b[k + 3] = (x.a % 256) as u8;
+    b[k + 4] = (x.b / 16777216 % 256) as u8;
+    b[k + 5] = (x.b / 65536 % 256) as u8;
+    b[k + 6] = (x.b / 256 % 256) as u8;
+    b[k + 7] = (x.b % 256) as u8;
+    b[k + 8] = (x.c / 16777216 % 256) as u8;
+    b[k + 9] = (x.c / 65536 % 256) as u8;
+    b[k + 10] = (x.c / 256 % 256) as u8;
+    b[k + 11] = (x.c % 256) as u8;
+    b[k + 12] = (x.d / 16777216 % 256) as u8;
+    b[k + 13] = (x.d / 65536 % 256) as u8;
+    b[k + 14] = (x.d / 256 % 256) as u8;
+    b[k + 15] = (x.d % 256) as u8;
 }

@@ -7,7 +7,7 @@ use Rattle.aes.proofs.decipher.Reads as reads
 use Rattle.aes.proofs.decipher.Lts as lts
 use Rattle.aes.proofs.columns.bytes_of.Reads as bytes-of-reads
 use Rattle.aes.proofs.columns.columns_of.Reads as columns-of-reads
-use Rattle.aes.proofs.decipher_columns.Reads as decipher-columns-reads
+use Rattle.aes.proofs.cipher.decipher_columns.Reads as decipher-columns-reads
 use Rattle.aes.proofs.schedule.expand.Reads as expand-reads
 use Rattle.aes.proofs.schedule.invert.Reads as invert-reads
 use Rattle.field.proofs.inv_sbox.Reads as inv-sbox-reads

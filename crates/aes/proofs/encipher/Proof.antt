@@ -7,7 +7,7 @@ use Rattle.aes.proofs.encipher.Reads as reads
 use Rattle.aes.proofs.encipher.Lts as lts
 use Rattle.aes.proofs.columns.bytes_of.Reads as bytes-of-reads
 use Rattle.aes.proofs.columns.columns_of.Reads as columns-of-reads
-use Rattle.aes.proofs.encipher_columns.Reads as encipher-columns-reads
+use Rattle.aes.proofs.cipher.encipher_columns.Reads as encipher-columns-reads
 use Rattle.field.proofs.mixed.Reads as mixed-reads
 use Rattle.field.proofs.sbox.Reads as sbox-reads
 

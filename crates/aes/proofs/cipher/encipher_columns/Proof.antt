@@ -8,10 +8,10 @@ use Rattle.aes.specs.Words.{blockOf}
 use Rattle.aes.specs.Cipher.{rounds, cipher, round}
 use Rattle.aes.specs.State.{addRoundKey, shiftRows, subBytes}
 use mathlib.Core.List.{List}
-use Rattle.aes.proofs.encipher_columns.Statement.{statement}
-use Rattle.aes.proofs.encipher_columns.Tie as tie
-use Rattle.aes.proofs.encipher_columns.Reads as reads
-use Rattle.aes.proofs.encipher_columns.Lts as lts
+use Rattle.aes.proofs.cipher.encipher_columns.Statement.{statement}
+use Rattle.aes.proofs.cipher.encipher_columns.Tie as tie
+use Rattle.aes.proofs.cipher.encipher_columns.Reads as reads
+use Rattle.aes.proofs.cipher.encipher_columns.Lts as lts
 use Rattle.aes.proofs.rounds.add_round_key.Reads as add-round-key-reads
 use Rattle.aes.proofs.rounds.full.Reads as full-reads
 use Rattle.aes.proofs.rounds.last.Reads as last-reads

@@ -8,10 +8,10 @@ use Rattle.aes.specs.Words.{blockOf}
 use Rattle.aes.specs.Inverse.{eqRounds, eqInvCipher}
 use Rattle.aes.specs.State.{addRoundKey, invShiftRows, invSubBytes, invMixColumns}
 use mathlib.Core.List.{List}
-use Rattle.aes.proofs.decipher_columns.Statement.{statement}
-use Rattle.aes.proofs.decipher_columns.Tie as tie
-use Rattle.aes.proofs.decipher_columns.Reads as reads
-use Rattle.aes.proofs.decipher_columns.Lts as lts
+use Rattle.aes.proofs.cipher.decipher_columns.Statement.{statement}
+use Rattle.aes.proofs.cipher.decipher_columns.Tie as tie
+use Rattle.aes.proofs.cipher.decipher_columns.Reads as reads
+use Rattle.aes.proofs.cipher.decipher_columns.Lts as lts
 use Rattle.aes.proofs.rounds.add_round_key.Reads as add-round-key-reads
 use Rattle.aes.proofs.rounds.inv_full.Reads as inv-full-reads
 use Rattle.aes.proofs.rounds.inv_last.Reads as inv-last-reads
