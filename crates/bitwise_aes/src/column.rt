@@ -1,5 +1,5 @@
 // A column of four bytes, and what the rounds make of it (FIPS 197, sections 5.1 and 5.3).
-use crate::field;
+use crate::element;
 
 // A column, from the first row to the last; also a word of a key.
 pub struct Column {
@@ -22,29 +22,29 @@ pub(crate) fn sum(x: Column, y: Column) -> Column {
 // SubBytes of a column; SubWord of a word.
 pub(crate) fn substituted(x: Column) -> Column {
     Column {
-        a: field::substituted(x.a),
-        b: field::substituted(x.b),
-        c: field::substituted(x.c),
-        d: field::substituted(x.d),
+        a: element::substituted(x.a),
+        b: element::substituted(x.b),
+        c: element::substituted(x.c),
+        d: element::substituted(x.d),
     }
 }
 
 // InvSubBytes of a column.
 pub(crate) fn unsubstituted(x: Column) -> Column {
     Column {
-        a: field::unsubstituted(x.a),
-        b: field::unsubstituted(x.b),
-        c: field::unsubstituted(x.c),
-        d: field::unsubstituted(x.d),
+        a: element::unsubstituted(x.a),
+        b: element::unsubstituted(x.b),
+        c: element::unsubstituted(x.c),
+        d: element::unsubstituted(x.d),
     }
 }
 
 // A column times a row of coefficients.
 fn dot(m: Column, x: Column) -> u8 {
-    field::product(m.a, x.a)
-        ^ field::product(m.b, x.b)
-        ^ field::product(m.c, x.c)
-        ^ field::product(m.d, x.d)
+    element::product(m.a, x.a)
+        ^ element::product(m.b, x.b)
+        ^ element::product(m.c, x.c)
+        ^ element::product(m.d, x.d)
 }
 
 // The row m turned right by one place.

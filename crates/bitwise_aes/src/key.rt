@@ -1,7 +1,7 @@
 // The key schedule, one round key from the next or from the one before it (FIPS 197, section 5.2).
 use crate::column;
 use crate::column::Column;
-use crate::field;
+use crate::element;
 use crate::state::State;
 
 // What the first word of a round key takes from the last word of the round key before it: RotWord, SubWord and the round constant.
@@ -59,7 +59,7 @@ pub(crate) fn last(key: State) -> State {
     while n < 10 {
         let next = after(k, constant);
         k = next;
-        constant = field::doubled(constant);
+        constant = element::doubled(constant);
         n += 1;
     }
     k

@@ -1,6 +1,6 @@
 // A second AES-128, to compare `aes` with: no table, and no code of `field` or `aes`; each byte is computed from FIPS 197's rule over GF(2^8).
 mod column;
-mod field;
+mod element;
 mod key;
 mod state;
 
@@ -19,7 +19,7 @@ pub fn encipher(key: [u8; 16], block: [u8; 16]) -> [u8; 16]
     while n < 10 {
         let next = key::after(k, constant);
         k = next;
-        constant = field::doubled(constant);
+        constant = element::doubled(constant);
         n += 1;
         let t = state::shifted(state::substituted(s));
         let mixed = if n < 10 { state::mixed(t) } else { t };
@@ -39,7 +39,7 @@ pub fn decipher(key: [u8; 16], block: [u8; 16]) -> [u8; 16]
     while 0 < n {
         let before = key::before(k, constant);
         k = before;
-        constant = field::halved(constant);
+        constant = element::halved(constant);
         n -= 1;
         let t = state::sum(state::unsubstituted(state::unshifted(s)), k);
         let unmixed = if 0 < n { state::unmixed(t) } else { t };

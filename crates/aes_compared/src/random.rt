@@ -1,0 +1,35 @@
+// Pseudo-random numbers from a seed, and the bytes of numbers.
+
+// The number after x in Marsaglia's sequence xorshift64.
+pub(crate) fn next(x: u64) -> u64 {
+    let a = x ^ (x << 13);
+    let b = a ^ (a >> 7);
+    b ^ (b << 17)
+}
+
+// The lowest byte of a number.
+fn low(x: u64) -> u8 {
+    (x % 256) as u8
+}
+
+// The sixteen bytes of two numbers, the lowest first.
+pub(crate) fn block(x: u64, y: u64) -> [u8; 16] {
+    [
+        low(x),
+        low(x / 256),
+        low(x / 65536),
+        low(x / 16777216),
+        low(x / 4294967296),
+        low(x / 1099511627776),
+        low(x / 281474976710656),
+        low(x / 72057594037927936),
+        low(y),
+        low(y / 256),
+        low(y / 65536),
+        low(y / 16777216),
+        low(y / 4294967296),
+        low(y / 1099511627776),
+        low(y / 281474976710656),
+        low(y / 72057594037927936),
+    ]
+}
