@@ -5,10 +5,10 @@ use Rattle.aes_compared.proofs.pairs.pseudo_random.Statement.{statement
 use Rattle.aes_compared.proofs.pairs.pseudo_random.Tie as tie
 
 abbrev Inv-loop : tie.InvT-loop
-Inv-loop seed count tally₀ d₀ n₀ tally d n = n ≤ count
+Inv-loop seed count seen₀ d₀ n₀ seen d n = n ≤ count
 
 abbrev μ-loop : tie.MeasureT-loop
-μ-loop seed count tally₀ d₀ n₀ tally d n = count - n
+μ-loop seed count seen₀ d₀ n₀ seen d n = count - n
 
 pub pseudo-random-spec : {M : Type 1} → statement M
 pseudo-random-spec =
@@ -16,6 +16,7 @@ pseudo-random-spec =
     (tie.spec
     Inv-loop
     μ-loop
+    (λ c κs. search needs)
     (λ c. search needs)
     (λ c κs. search needs)
     (λ c κs. search needs)

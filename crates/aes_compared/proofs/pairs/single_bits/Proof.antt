@@ -5,10 +5,10 @@ use Rattle.aes_compared.proofs.pairs.single_bits.Statement.{statement}
 use Rattle.aes_compared.proofs.pairs.single_bits.Tie as tie
 
 abbrev Inv-loop : tie.InvT-loop
-Inv-loop zeros x₀ tally₀ n₀ x tally n = n ≤ 64
+Inv-loop zeros bit₀ seen₀ n₀ bit seen n = n ≤ 64
 
 abbrev μ-loop : tie.MeasureT-loop
-μ-loop zeros x₀ tally₀ n₀ x tally n = 64 - n
+μ-loop zeros bit₀ seen₀ n₀ bit seen n = 64 - n
 
 pub single-bits-spec : {M : Type 1} → statement M
 single-bits-spec =
@@ -16,6 +16,7 @@ single-bits-spec =
     (tie.spec
     Inv-loop
     μ-loop
+    (λ c κs. search needs)
     (λ c. search needs)
     (λ c κs. search needs)
     (λ c κs. search needs)
