@@ -1,7 +1,8 @@
 // Numbers as bytes, high byte first, and the text of which a line's MAC is made.
 ghost use mathlib.Core.Path.{_≡_};
-ghost use Prim.Native.Nat.{_+_};
+ghost use Prim.Native.Nat.{_+_, _≤_};
 ghost use lib.ListN.{length};
+ghost use Rattle.lists.specs.Parts.{putAt};
 ghost use Rattle.lists.specs.Words.{bigBytes};
 ghost use Rattle.sealing.specs.Lines.{drkOf, signedText};
 
@@ -54,6 +55,14 @@ pub(crate) fn signed_text(prefix: u8, address: u64, bytes: &[u8], out: &mut [u8]
 {
     let a = big(address);
     out[0] = prefix;
-    bytes::copy(&a, &mut out[1..]);
-    bytes::copy(bytes, &mut out[9..]);
+    put(&a, out, 1);
+    put(bytes, out, 9);
+}
+
+// Copies bytes into a buffer from place k on.
+fn put(bytes: &[u8], out: &mut [u8], k: usize)
+    requires { ⌜ k + length (now bytes) ≤ length (now out) ⌝ }
+    ensures { λ _. ⌜ now (out .exit) ≡ putAt k (length (now (bytes .entry))) (now (bytes .entry)) (now (out .entry)) ⌝ }
+{
+    bytes::copy(bytes, &mut out[k..]);
 }
