@@ -74,12 +74,21 @@ last-padded k1 k2 m b r small part copy add =
     ∙ ap (λ (l : List ℕ). plus l k2) (set-at m 0 (replicate (15 - length m) 0) 0x80 (length m) refl)
     ∙ rw (ne-eqb (length m) 16 part)
 
+-- the subkeys
+pub subkey1-is : (w l r : List ℕ) → l ≡ cipher w (replicate 16 0) → r ≡ doubled l → r ≡ subkey1 w
+unfolding subkey1 zeros
+subkey1-is w l r run double = double ∙ ap doubled run
+
+pub subkey2-is : (w k r : List ℕ) → k ≡ subkey1 w → r ≡ doubled k → r ≡ subkey2 w
+unfolding subkey2
+subkey2-is w k r first double = double ∙ ap doubled first
+
 -- the MAC
-pub signed : (w m l k1 before last x r : List ℕ) (n : ℕ) → n ≡ beforeLast (length m) → l ≡ cipher w (replicate 16 0) → k1 ≡ doubled l
+pub signed : (w m k1 before last x r : List ℕ) (n : ℕ) → n ≡ beforeLast (length m) → k1 ≡ subkey1 w
     → before ≡ lastOfChain w (replicate 16 0) (take n m) → last ≡ lastBlock k1 (doubled k1) (take (length m - n) (drop n m)) → x ≡ plus before last
     → r ≡ cipher w x → r ≡ cmac w m
-unfolding cmac subkey1 subkey2 zeros
-signed w m l k1 before last x r n split first key chain end add run =
+unfolding cmac subkey2 zeros
+signed w m k1 before last x r n split key chain end add run =
     run ∙ ap (cipher w) (add ∙ ap₂ plus (chain ∙ ap (λ (k : ℕ). lastOfChain w (replicate 16 0) (take k m)) split)
     (end ∙ ap (λ (t : List ℕ). lastBlock k1 (doubled k1) t) (take-all (length m - n) (drop n m) (rw (length-drop n m) (omega arith)))
-    ∙ ap₂ (λ (k : List ℕ) (j : ℕ). lastBlock k (doubled k) (drop j m)) (key ∙ ap doubled first) split))
+    ∙ ap₂ (λ (k : List ℕ) (j : ℕ). lastBlock k (doubled k) (drop j m)) key split))

@@ -4,7 +4,7 @@ ghost use Prim.Native.Nat.{_+_, _*_, _/_, _%_, _≤_};
 ghost use lib.ListN.{length};
 ghost use Rattle.field.specs.Field.{_⊕_};
 ghost use Rattle.aes.specs.State.{plus};
-ghost use Rattle.cmac.specs.Subkeys.{doubled};
+ghost use Rattle.cmac.specs.Subkeys.{doubled, subkey1, subkey2};
 ghost use Rattle.cmac.specs.Cmac.{Before, cmac, lastBlock};
 
 // The sum of two blocks.
@@ -84,12 +84,27 @@ fn last_block(k1: &[u8; 16], m: &[u8]) -> [u8; 16]
     sum(&b, &double(k1))
 }
 
+// K1, the subkey for a whole last block.
+pub fn subkey1(w: &[u32; 44]) -> [u8; 16]
+    ensures { λ r. ⌜ r ≡ subkey1 (now (w .entry)) ⌝ }
+{
+    let zeros = [0u8; 16];
+    double(&aes::encipher(w, &zeros))
+}
+
+// K2, the subkey for a last block that is padded.
+pub fn subkey2(w: &[u32; 44]) -> [u8; 16]
+    ensures { λ r. ⌜ r ≡ subkey2 (now (w .entry)) ⌝ }
+{
+    double(&subkey1(w))
+}
+
 // The MAC of a message under the words of a key schedule.
 pub fn sign(w: &[u32; 44], m: &[u8]) -> [u8; 16]
     ensures { λ r. ⌜ r ≡ cmac (now (w .entry)) (now (m .entry)) ⌝ }
 {
     let zeros = [0u8; 16];
-    let k1 = double(&aes::encipher(w, &zeros));
+    let k1 = subkey1(w);
     let n = before_last(m.len());
     let before = aes::chain::absorb(w, &zeros, &m[..n]);
     let last = last_block(&k1, &m[n..]);
