@@ -1,0 +1,60 @@
+-- Bytes stay bytes in parts, joins and puts.
+use Prim.Native.Nat.{ℕ, zero, suc, _+_, _≤_, _<_}
+use native.Mathlib.Omega.{arith}
+use native.Mathlib.Decide.{decLt}
+use mathlib.Core.Path.{_≡_, refl, sym, subst}
+use mathlib.Core.List.{List, [], _∷_, _++_}
+use lib.ListN.{length, take, drop, getD, replicate, length-replicate}
+use lib.Seq.{getD-drop}
+use Rattle.lists.specs.Parts.{partAt, putAt}
+use Rattle.lists.specs.Bytes.{Bytes, zeros}
+
+pub bytes-none : Bytes []
+bytes-none = record { byte = λ i. omega arith }
+
+-- a byte before bytes
+pub bytes-cons : (x : ℕ) (l : List ℕ) → x < 256 → Bytes l → Bytes (x ∷ l)
+bytes-cons x l h b = record { byte = go }
+  where
+    go : (i : ℕ) → getD (x ∷ l) i 0 < 256
+    go zero = h
+    go (suc i) = b .byte i
+
+pub bytes-head : (x : ℕ) (l : List ℕ) → Bytes (x ∷ l) → x < 256
+bytes-head x l b = b .byte 0
+
+pub bytes-tail : (x : ℕ) (l : List ℕ) → Bytes (x ∷ l) → Bytes l
+bytes-tail x l b = record { byte = λ i. b .byte (suc i) }
+
+pub bytes-append : (l r : List ℕ) → Bytes l → Bytes r → Bytes (l ++ r)
+bytes-append [] r b c = c
+bytes-append (x ∷ l) r b c = bytes-cons x (l ++ r) (bytes-head x l b) (bytes-append l r (bytes-tail x l b) c)
+
+pub bytes-take : (n : ℕ) (l : List ℕ) → Bytes l → Bytes (take n l)
+bytes-take zero l b = bytes-none
+bytes-take (suc n) [] b = bytes-none
+bytes-take (suc n) (x ∷ l) b = bytes-cons x (take n l) (bytes-head x l b) (bytes-take n l (bytes-tail x l b))
+
+pub bytes-drop : (n : ℕ) (l : List ℕ) → Bytes l → Bytes (drop n l)
+bytes-drop zero l b = b
+bytes-drop (suc n) [] b = bytes-none
+bytes-drop (suc n) (x ∷ l) b = bytes-drop n l (bytes-tail x l b)
+
+pub bytes-part : (a k : ℕ) (l : List ℕ) → Bytes l → Bytes (partAt a k l)
+unfolding partAt
+bytes-part a k l b = bytes-take k (drop a l) (bytes-drop a l b)
+
+pub bytes-put : (a k : ℕ) (x l : List ℕ) → Bytes x → Bytes l → Bytes (putAt a k x l)
+unfolding putAt
+bytes-put a k x l c b =
+    bytes-append (take a l) (x ++ drop k (drop a l)) (bytes-take a l b)
+    (bytes-append x (drop k (drop a l)) c (bytes-drop k (drop a l) (bytes-drop a l b)))
+
+pub length-zeros : (k : ℕ) → length (zeros k) ≡ k
+unfolding zeros
+length-zeros k = length-replicate k 0
+
+pub bytes-zeros : (k : ℕ) → Bytes (zeros k)
+unfolding zeros
+bytes-zeros zero = bytes-none
+bytes-zeros (suc k) = bytes-cons 0 (replicate k 0) (omega arith) (bytes-zeros k)

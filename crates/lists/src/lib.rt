@@ -1,0 +1,1 @@
+// Parts of lists, bytes, and numbers laid out as bytes: definitions and laws only, no code.
