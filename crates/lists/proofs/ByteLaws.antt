@@ -2,12 +2,15 @@
 use Prim.Native.Nat.{ℕ, zero, suc, _+_, _≤_, _<_}
 use native.Mathlib.Omega.{arith}
 use native.Mathlib.Decide.{decLt}
-use mathlib.Core.Path.{_≡_, refl, sym, subst}
+use mathlib.Core.Path.{_≡_, refl, sym, subst, ap₂}
+use mathlib.Core.Bool.{Bool, true, false, _&&_, false≢true}
+use borrow.Author.Tests.{eq-eqb, eqb-true}
+use lib.Dec.{eqb}
 use mathlib.Core.List.{List, [], _∷_, _++_}
 use lib.ListN.{length, take, drop, getD, replicate, length-replicate}
 use lib.Seq.{getD-drop}
 use Rattle.lists.specs.Parts.{partAt, putAt}
-use Rattle.lists.specs.Bytes.{Bytes, zeros}
+use Rattle.lists.specs.Bytes.{Bytes, zeros, same}
 
 pub bytes-none : Bytes []
 bytes-none = record { byte = λ i. omega arith }
@@ -58,3 +61,21 @@ pub bytes-zeros : (k : ℕ) → Bytes (zeros k)
 unfolding zeros
 bytes-zeros zero = bytes-none
 bytes-zeros (suc k) = bytes-cons 0 (replicate k 0) (omega arith) (bytes-zeros k)
+
+-- a list is the same as itself
+pub same-refl : (l : List ℕ) → same l l ≡ true
+unfolding same
+same-refl [] = refl
+same-refl (x ∷ l) = rw (eq-eqb x x refl) (same-refl l)
+
+-- lists that test as the same are equal
+pub same-true : (l r : List ℕ) → same l r ≡ true → l ≡ r
+unfolding same
+same-true [] [] e = refl
+same-true [] (y ∷ r) e = absurd (false≢true e)
+same-true (x ∷ l) [] e = absurd (false≢true e)
+same-true (x ∷ l) (y ∷ r) e = go (eqb x y) refl e (same-true l r)
+  where
+    go : (b : Bool) → eqb x y ≡ b → (b && same l r) ≡ true → (same l r ≡ true → l ≡ r) → x ∷ l ≡ y ∷ r
+    go true q h rest = ap₂ _∷_ (eqb-true x y q) (rest h)
+    go false q h rest = absurd (false≢true h)

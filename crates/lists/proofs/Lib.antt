@@ -1,3 +1,5 @@
 pub mod PartLaws
 pub mod ByteLaws
 pub mod WordLaws
+pub mod NthLaws
+pub mod Cases

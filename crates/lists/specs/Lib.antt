@@ -1,3 +1,4 @@
+pub mod If
 pub mod Parts
 pub mod Bytes
 pub mod Words
