@@ -9,7 +9,7 @@ use Rattle.lists.specs.If.{if}
 use Rattle.lists.specs.Bytes.{zeros}
 use Rattle.lists.proofs.ByteLaws.{length-zeros}
 use Rattle.lists.proofs.Cases.{by-eq, by-test}
-use Rattle.lists.proofs.NthLaws.{nth-length, nth-put-length, nth-put-here, nth-put-other}
+use Rattle.lists.proofs.NthLaws.{nth-length, nth-put-length, nth-put-here, nth-put-other, nth-put-bytes}
 use Rattle.model.specs.Tags.{Tag, noTag, secureInstruction, secureData}
 use Rattle.model.specs.Cipher.{Cipher}
 use Rattle.model.specs.CipherLaws.{Sized, CipherLaws}
@@ -19,18 +19,10 @@ use Rattle.model.specs.PlacementLaws.{PlacementLaws}
 use Rattle.model.specs.Uncached.{Uncached}
 use Rattle.model.specs.Cached.{Cached, evictPlace}
 use Rattle.model.proofs.LineLaws.{line-sized, mac-length, seen-sized, stored-sized, signed-length}
+use Rattle.agree.proofs.Update.{one-place, update-agrees}
 use Rattle.agree.specs.Agree.{Held, HeldAt, Free, Same, Agree}
 
--- a held line after the lists around it were replaced by equal ones
-pub held-moves : (c : Cipher) (key : List ℕ) (e : Entry) {l m h g b l′ m′ h′ g′ b′ : List ℕ} → l ≡ l′ → m ≡ m′ → h ≡ h′ → g ≡ g′ → b ≡ b′ → Held c key e l m h g b → Held c key e l′ m′ h′ g′ b′
-held-moves c key e p q r t v H = rw (← p, ← q, ← r, ← t, ← v) H
-
 module _ (c : Cipher) (CL : CipherLaws c) (P : Placement) (L : PlacementLaws P) (N : ℕ) where
-
-  -- two used places that hold one line are one place
-  pub one-place : (d : List ℕ) (p q : ℕ) → L .Orderly N d → p < length d → q < length d → P .look d p .used ≡ true → P .look d q .used ≡ true → P .look d q .line ≡ P .look d p .line → q ≡ p
-  one-place d p q o hp hq up uq e = sym (L .held-chosen d q o hq uq) ∙ (ap (P .choose d) e ∙ L .held-chosen d p o hp up)
-
   -- the bytes of a held line are 64 bytes
   pub body-sized : (u : Uncached) (s : Cached) (p : ℕ) → Agree c P L N u s → p < length (s .dir) → P .look (s .dir) p .used ≡ true → Sized 64 (lineAt p (s .cache))
   body-sized u s p A hp h =
@@ -55,7 +47,7 @@ module _ (c : Cipher) (CL : CipherLaws c) (P : Placement) (L : PlacementLaws P) 
           mem = if (e .dirty) (putLine (e .line) line (s .mem)) (s .mem);
           macs = if (e .dirty) (putMac (e .line) mac (s .macs)) (s .macs);
           cache = putLine p (zeros 64) (s .cache);
-          dir = P .clear (s .dir) p
+          dir = P .clear (s .dir) p;
         }
 
     in-memory : e .line < N
@@ -69,63 +61,41 @@ module _ (c : Cipher) (CL : CipherLaws c) (P : Placement) (L : PlacementLaws P) 
         signed-length c CL (s .key) (A .key) (e .line) (e .tag) line (macAt (e .line) (s .macs)) line-fits
         (mac-length N (e .line) (s .macs) (A .macs) in-memory)
 
-    -- another place's line and bytes stand as they were
-    others : (q : ℕ) → q ≢ p → q < length (s .dir) → P .look (s .dir) q .used ≡ true → HeldAt c (P .look (s .dir) q) q u next
-    unfolding lineAt macAt putLine putMac
-    others q d hq w =
-        let n = P .look (s .dir) q .line in
-        let apart : n ≢ e .line = λ z. d (one-place (s .dir) p q (A .orderly) hp hq h w z) in
-        held-moves c (s .key) (P .look (s .dir) q) refl refl
-        (sym (nth-put-other 64 N (s .mem) (A .mem) (e .dirty) n (e .line) line in-memory (line-fits .size) apart))
-        (sym (nth-put-other 16 N (s .macs) (A .macs) (e .dirty) n (e .line) mac in-memory mac-fits apart))
-        (sym (nth-put-other 64 (length (s .dir)) (s .cache) (A .cache) true q p (zeros 64) hp (length-zeros 64) d))
-        (A .held q hq w)
-
-    -- the evicted line is now at home
-    home : Same (e .line) u next
-    unfolding lineAt macAt putLine putMac
-    home =
-        record {
-          lines = A .held p hp h .lines ∙ sym (nth-put-here 64 N (s .mem) (A .mem) (e .dirty) (e .line) line in-memory (line-fits .size));
-          macs = A .held p hp h .macs ∙ sym (nth-put-here 16 N (s .macs) (A .macs) (e .dirty) (e .line) mac in-memory mac-fits)
-        }
-
-    -- and every other line that no place holds is where it was
-    elsewhere : (n : ℕ) → n ≢ e .line → n < N → Free P (P .clear (s .dir) p) n → Same n u next
-    unfolding lineAt macAt putLine putMac
-    elsewhere n d hn f =
-        let g : Free P (s .dir) n =
-            record {
-              nowhere =
-                λ q hq w z.
-                  by-eq q p
-                  (λ a. d (sym z ∙ ap (λ (r : ℕ). P .look (s .dir) r .line) a))
-                  (λ a. f .nowhere q (rw (L .clear-length (s .dir) p) hq) (rw (L .clear-other (s .dir) p q a) w) (rw (L .clear-other (s .dir) p q a) z))
-            } in
-        record {
-          lines = A .free n hn g .lines ∙ sym (nth-put-other 64 N (s .mem) (A .mem) (e .dirty) n (e .line) line in-memory (line-fits .size) d);
-          macs = A .free n hn g .macs ∙ sym (nth-put-other 16 N (s .macs) (A .macs) (e .dirty) n (e .line) mac in-memory mac-fits d)
-        }
-
     evict-used : Agree c P L N u next
-    unfolding putLine putMac
+    unfolding lineAt macAt putLine putMac
     evict-used =
-        record {
-          keys = A .keys;
-          key = A .key;
-          plainMem = A .plainMem;
-          plainMacs = A .plainMacs;
-          mem = nth-put-length 64 N (s .mem) (A .mem) (e .dirty) (e .line) line in-memory (line-fits .size);
-          macs = nth-put-length 16 N (s .macs) (A .macs) (e .dirty) (e .line) mac in-memory mac-fits;
-          cache = rw (L .clear-length (s .dir) p) (nth-put-length 64 (length (s .dir)) (s .cache) (A .cache) true p (zeros 64) hp (length-zeros 64));
+        update-agrees c P L N (e .line) p u u s next A hp
+        (record {
+          occupant = λ w. refl;
+          alone = λ q d hq w z. d (one-place c P L N (s .dir) p q (A .orderly) hp hq h w z);
+          named = λ w. absurd (false≢true (sym (L .clear-here (s .dir) p hp) ∙ w));
+          plainKey = refl;
+          key = refl;
+          places = L .clear-length (s .dir) p;
+          looks = L .clear-other (s .dir) p;
+          slots = λ q d. nth-put-other 64 (length (s .dir)) (s .cache) (A .cache) true q p (zeros 64) hp (length-zeros 64) d;
+          plainLines = λ i d. refl;
+          plainMacs = λ i d. refl;
+          lines = λ i d. nth-put-other 64 N (s .mem) (A .mem .size) (e .dirty) i (e .line) line in-memory (line-fits .size) d;
+          macs = λ i d. nth-put-other 16 N (s .macs) (A .macs) (e .dirty) i (e .line) mac in-memory mac-fits d;
+          plainMemSize = A .plainMem;
+          plainMacsSize = A .plainMacs;
+          memSize =
+              record {
+                size = nth-put-length 64 N (s .mem) (A .mem .size) (e .dirty) (e .line) line in-memory (line-fits .size);
+                bytes = nth-put-bytes 64 (e .line) (e .dirty) line (s .mem) (line-fits .bytes) (A .mem .bytes);
+              };
+          macsSize = nth-put-length 16 N (s .macs) (A .macs) (e .dirty) (e .line) mac in-memory mac-fits;
+          cacheSize = nth-put-length 64 (length (s .dir)) (s .cache) (A .cache) true p (zeros 64) hp (length-zeros 64);
           orderly = L .clear-orderly (s .dir) p (A .orderly) hp;
-          held =
-            λ q hq w.
-              by-eq q p
-              (λ a. absurd (false≢true (sym (L .clear-here (s .dir) p hp) ∙ subst (λ (r : ℕ). P .look (P .clear (s .dir) p) r .used ≡ true) a w)))
-              (λ a. rw (L .clear-other (s .dir) p q a) (others q a (rw (L .clear-length (s .dir) p) at hq) (rw (L .clear-other (s .dir) p q a) at w)));
-          free = λ n hn f. by-eq n (e .line) (λ a. rw a home) (λ a. elsewhere n a hn f)
-        }
+          here = λ w. absurd (false≢true (sym (L .clear-here (s .dir) p hp) ∙ w));
+          home =
+              λ w.
+              record {
+                lines = A .held p hp h .lines ∙ sym (nth-put-here 64 N (s .mem) (A .mem .size) (e .dirty) (e .line) line in-memory (line-fits .size));
+                macs = A .held p hp h .macs ∙ sym (nth-put-here 16 N (s .macs) (A .macs) (e .dirty) (e .line) mac in-memory mac-fits);
+              };
+        })
 
   -- an empty slot changes nothing
   evict-empty : (s : Cached) (p : ℕ) → L .Orderly N (s .dir) → p < length (s .dir) → P .look (s .dir) p .used ≡ false → evictPlace c P p s .state ≡ s
@@ -138,3 +108,35 @@ module _ (c : Cipher) (CL : CipherLaws c) (P : Placement) (L : PlacementLaws P) 
       by-test (P .look (s .dir) p .used)
       (λ h. rw h (evict-used u s p A hp h))
       (λ h. rw (evict-empty s p (A .orderly) hp h) A)
+
+  -- what evicting does to the directory: its length stands, the slot is empty, the other places are as they were
+  pub evict-length : (s : Cached) (p : ℕ) → length (evictPlace c P p s .state .dir) ≡ length (s .dir)
+  unfolding evictPlace
+  evict-length s p = by-test (P .look (s .dir) p .used) (λ h. rw h (L .clear-length (s .dir) p)) (λ h. rw h)
+
+  pub evict-here : (s : Cached) (p : ℕ) → p < length (s .dir) → P .look (evictPlace c P p s .state .dir) p .used ≡ false
+  unfolding evictPlace
+  evict-here s p hp = by-test (P .look (s .dir) p .used) (λ h. rw h (L .clear-here (s .dir) p hp)) (λ h. rw h h)
+
+  pub evict-other : (s : Cached) (p q : ℕ) → q ≢ p → P .look (evictPlace c P p s .state .dir) q ≡ P .look (s .dir) q
+  unfolding evictPlace
+  evict-other s p q d = by-test (P .look (s .dir) p .used) (λ h. rw h (L .clear-other (s .dir) p q d)) (λ h. rw h)
+
+  pub evict-mine : (s : Cached) (p n q : ℕ) → L .Orderly N (s .dir) → p < length (s .dir) → L .Mine N (s .dir) n q → L .Mine N (evictPlace c P p s .state .dir) n q
+  unfolding evictPlace
+  evict-mine s p n q o hp m = by-test (P .look (s .dir) p .used) (λ h. rw h (L .clear-mine (s .dir) n q p o hp m)) (λ h. rw h m)
+
+  -- a line whose place was evicted is held nowhere
+  pub evict-frees : (s : Cached) (n p : ℕ) → L .Orderly N (s .dir) → p < length (s .dir) → P .choose (s .dir) n ≡ p → Free P (evictPlace c P p s .state .dir) n
+  evict-frees s n p o hp e =
+      record {
+        nowhere =
+            λ q hq w z.
+            by-eq q p
+            (λ a. false≢true (sym (evict-here s p hp) ∙ subst (λ (r : ℕ). P .look (evictPlace c P p s .state .dir) r .used ≡ true) a w))
+            (λ a.
+            let hq′ : q < length (s .dir) = rw (evict-length s p) at hq in
+            let w′ : P .look (s .dir) q .used ≡ true = rw (evict-other s p q a) at w in
+            let z′ : P .look (s .dir) q .line ≡ n = rw (evict-other s p q a) at z in
+            a (sym (L .held-chosen (s .dir) q o hq′ w′) ∙ (ap (P .choose (s .dir)) z′ ∙ e)));
+      }

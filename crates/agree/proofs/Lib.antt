@@ -1,1 +1,7 @@
+pub mod Update
 pub mod Evict
+pub mod Fill
+pub mod Access
+pub mod Bus
+pub mod Everything
+pub mod Requests

@@ -1,7 +1,7 @@
 -- When a cached memory and the manual's memory agree: the invariant that demand 3 needs, said line by line.
 use Prim.Native.Nat.{ℕ, _*_, _<_}
 use mathlib.Core.Path.{_≡_}
-use mathlib.Core.Bool.{true}
+use mathlib.Core.Bool.{true, false}
 use mathlib.Core.List.{List}
 use lib.ListN.{length}
 use Rattle.lists.specs.If.{if}
@@ -30,6 +30,10 @@ pub record Same (n : ℕ) (u : Uncached) (s : Cached) : Type 0 where
   pub lines : lineAt n (u .mem) ≡ lineAt n (s .mem)
   pub macs : macAt n (u .macs) ≡ macAt n (s .macs)
 
+-- every place is empty
+pub record AllEmpty (P : Placement) (dir : List ℕ) : Type 0 where
+  pub unused : (p : ℕ) → p < length dir → P .look dir p .used ≡ false
+
 -- what the entry e at place p must satisfy
 abbrev pub HeldAt : Cipher → Entry → ℕ → Uncached → Cached → Type 0
 HeldAt c e p u s =
@@ -41,7 +45,7 @@ pub record Agree (c : Cipher) (P : Placement) (L : PlacementLaws P) (N : ℕ) (u
   pub key : Sized 16 (s .key)
   pub plainMem : Sized (N * 64) (u .mem)
   pub plainMacs : length (u .macs) ≡ N * 16
-  pub mem : length (s .mem) ≡ N * 64
+  pub mem : Sized (N * 64) (s .mem)
   pub macs : length (s .macs) ≡ N * 16
   pub cache : length (s .cache) ≡ length (s .dir) * 64
   pub orderly : L .Orderly N (s .dir)

@@ -36,14 +36,14 @@ evictPlace c P p s =
     record {
       ok = true;
       state =
-        record {
-          key = s .key;
-          mem = if (e .dirty) (putLine (e .line) line (s .mem)) (s .mem);
-          macs = if (e .dirty) (putMac (e .line) (signed c (e .tag) (s .key) (e .line) line (macAt (e .line) (s .macs))) (s .macs)) (s .macs);
-          cache = if (e .used) (putLine p (zeros 64) (s .cache)) (s .cache);
-          dir = if (e .used) (P .clear (s .dir) p) (s .dir)
-        };
-      log = if (e .used) (Note.evicted (e .tag) (e .line) (e .dirty) ∷ []) []
+          record {
+            key = s .key;
+            mem = if (e .dirty) (putLine (e .line) line (s .mem)) (s .mem);
+            macs = if (e .dirty) (putMac (e .line) (signed c (e .tag) (s .key) (e .line) line (macAt (e .line) (s .macs))) (s .macs)) (s .macs);
+            cache = if (e .used) (putLine p (zeros 64) (s .cache)) (s .cache);
+            dir = if (e .used) (P .clear (s .dir) p) (s .dir);
+          };
+      log = if (e .used) (Note.evicted (e .tag) (e .line) (e .dirty) ∷ []) [];
     }
 
 -- line n is filled into the slot under the tag: clean where its check passes, and otherwise the slot stays empty with 64 zero bytes
@@ -54,14 +54,14 @@ fillPlace c P tag n p s =
     record {
       ok = ok;
       state =
-        record {
-          key = s .key;
-          mem = s .mem;
-          macs = s .macs;
-          cache = putLine p (if ok (seen c tag (s .key) n line) (zeros 64)) (s .cache);
-          dir = if ok (P .touch (P .put (s .dir) p (holding n tag false)) p) (P .clear (s .dir) p)
-        };
-      log = Note.filled tag n ok ∷ []
+          record {
+            key = s .key;
+            mem = s .mem;
+            macs = s .macs;
+            cache = putLine p (if ok (seen c tag (s .key) n line) (zeros 64)) (s .cache);
+            dir = if ok (P .touch (P .put (s .dir) p (holding n tag false)) p) (P .clear (s .dir) p);
+          };
+      log = Note.filled tag n ok ∷ [];
     }
 
 -- one thing done after another
@@ -84,7 +84,7 @@ hitPlace P p s =
     record {
       ok = true;
       state = record { key = s .key; mem = s .mem; macs = s .macs; cache = s .cache; dir = P .touch (s .dir) p };
-      log = []
+      log = [];
     }
 
 -- line n is made ready in the slot under the tag: a hit, or the occupant is evicted and then the line is filled
@@ -100,7 +100,7 @@ writePlace P tag n p write change s =
       mem = s .mem;
       macs = s .macs;
       cache = if write (putLine p (change (lineAt p (s .cache))) (s .cache)) (s .cache);
-      dir = if write (P .put (s .dir) p (holding n tag true)) (s .dir)
+      dir = if write (P .put (s .dir) p (holding n tag true)) (s .dir);
     }
 
 -- an access at the slot that was chosen for its line
@@ -110,7 +110,7 @@ accessPlace c P tag n p write change s =
     record {
       reply = if (r .ok) (some (lineAt p (r .state .cache))) none;
       state = writePlace P tag n p (r .ok && write) change (r .state);
-      log = r .log
+      log = r .log;
     }
 
 -- line n is evicted where its slot holds it
@@ -143,7 +143,7 @@ cachedHandle c P (busWrite n x) s =
     record {
       reply = some [];
       state = record { key = t .key; mem = putLine n x (t .mem); macs = t .macs; cache = t .cache; dir = t .dir };
-      log = d .log
+      log = d .log;
     }
 cachedHandle c P (busMac n x) s =
     let d = evictLine c P n s in
@@ -151,7 +151,7 @@ cachedHandle c P (busMac n x) s =
     record {
       reply = some [];
       state = record { key = t .key; mem = t .mem; macs = putMac n x (t .macs); cache = t .cache; dir = t .dir };
-      log = d .log
+      log = d .log;
     }
 cachedHandle c P writeBack s =
     let d = evictAll c P s in
@@ -162,7 +162,7 @@ cachedHandle c P (rekey k) s =
     record {
       reply = some [];
       state = record { key = k; mem = t .mem; macs = t .macs; cache = t .cache; dir = t .dir };
-      log = d .log
+      log = d .log;
     }
 
 -- the cached memory
@@ -178,7 +178,7 @@ losePlace P p s =
       mem = s .mem;
       macs = s .macs;
       cache = if (e .used) (putLine p (zeros 64) (s .cache)) (s .cache);
-      dir = if (e .used) (P .clear (s .dir) p) (s .dir)
+      dir = if (e .used) (P .clear (s .dir) p) (s .dir);
     }
 
 -- the k slots from slot p on are lost

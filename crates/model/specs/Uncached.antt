@@ -26,12 +26,12 @@ uncachedHandle c (access tag n write change) s =
     record {
       reply = if ok (some body) none;
       state =
-        record {
-          key = s .key;
-          mem = if (ok && write) (putLine n next (s .mem)) (s .mem);
-          macs = if (ok && write) (putMac n (signed c tag (s .key) n next (macAt n (s .macs))) (s .macs)) (s .macs)
-        };
-      log = []
+          record {
+            key = s .key;
+            mem = if (ok && write) (putLine n next (s .mem)) (s .mem);
+            macs = if (ok && write) (putMac n (signed c tag (s .key) n next (macAt n (s .macs))) (s .macs)) (s .macs);
+          };
+      log = [];
     }
 uncachedHandle c (evict n) s = record { reply = some []; state = s; log = [] }
 uncachedHandle c (busRead n) s = record { reply = some (lineAt n (s .mem)); state = s; log = [] }
