@@ -9,7 +9,7 @@ use lib.ListN.{length}
 use lib.Dec.{eqb}
 use borrow.Author.Tests.{eqb-true}
 use Rattle.lists.specs.If.{if}
-use Rattle.lists.proofs.Cases.{by-eq, by-test}
+use Rattle.lists.proofs.Cases.{by-eq, by-test, both-hold}
 use Rattle.lists.proofs.NthLaws.{nth-put-length, nth-put-here, nth-put-other, nth-put-bytes}
 use Rattle.model.specs.Tags.{Tag, noTag, secureInstruction, secureData, sameTag}
 use Rattle.model.specs.Cipher.{Cipher}
@@ -26,16 +26,12 @@ use Rattle.agree.proofs.Update.{one-place, update-agrees}
 use Rattle.agree.proofs.Evict.{body-sized, evict-agrees, evict-length, evict-here, evict-mine, evict-frees}
 use Rattle.agree.proofs.Fill.{Ready, fill-ready}
 
-both : (a b : Bool) → (a && b) ≡ true → (a ≡ true) × (b ≡ true)
-both true b e = (refl, e)
-both false b e = absurd (false≢true e)
-
 -- an entry that serves holds the line under the tag
 serving : (e : Entry) (tag : Tag) (n : ℕ) → serves e tag n ≡ true → e ≡ holding n tag (e .dirty)
 unfolding serves holding
 serving e tag n h =
-    let a : (e .used ≡ true) × ((eqb (e .line) n && sameTag (e .tag) tag) ≡ true) = both (e .used) (eqb (e .line) n && sameTag (e .tag) tag) h in
-    let b : (eqb (e .line) n ≡ true) × (sameTag (e .tag) tag ≡ true) = both (eqb (e .line) n) (sameTag (e .tag) tag) (a .1) in
+    let a : (e .used ≡ true) × ((eqb (e .line) n && sameTag (e .tag) tag) ≡ true) = both-hold (e .used) (eqb (e .line) n && sameTag (e .tag) tag) h in
+    let b : (eqb (e .line) n ≡ true) × (sameTag (e .tag) tag ≡ true) = both-hold (eqb (e .line) n) (sameTag (e .tag) tag) (a .1) in
     let l : e .line ≡ n = eqb-true (e .line) n (b .0) in
     let t : e .tag ≡ tag = sameTag-true (e .tag) tag (b .1) in
     λ i. record { used = a .0 i; line = l i; tag = t i; dirty = e .dirty }
