@@ -165,10 +165,6 @@ cachedHandle c P (rekey k) s =
       log = d .log;
     }
 
--- the cached memory
-unfoldable pub cached : Cipher → Placement → Memory Cached
-cached c P = record { key = λ s. s .key; size = λ s. length (s .mem); handle = cachedHandle c P }
-
 -- a power cut empties the slot without writing back; an empty slot changes nothing
 unfoldable pub losePlace : Placement → ℕ → Cached → Cached
 losePlace P p s =
@@ -189,3 +185,7 @@ loseFrom P (suc k) p s = loseFrom P k (p + 1) (losePlace P p s)
 -- every slot is lost
 unfoldable pub loseAll : Placement → Cached → Cached
 loseAll P s = loseFrom P (length (s .dir)) 0 s
+
+-- the cached memory
+unfoldable pub cached : Cipher → Placement → Memory Cached
+cached c P = record { key = λ s. s .key; size = λ s. length (s .mem); handle = cachedHandle c P; cut = loseAll P }

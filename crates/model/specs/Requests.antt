@@ -1,8 +1,7 @@
 -- What the machine asks of its memory, programs of such requests, and any memory that can answer them.
 use Prim.Native.Nat.{ℕ}
 use mathlib.Core.Bool.{Bool}
-use mathlib.Core.List.{List, _++_}
-use mathlib.Core.List.{[]}
+use mathlib.Core.List.{List, [], _++_}
 use mathlib.Core.Option.{Option}
 use Rattle.model.specs.Tags.{Tag}
 use Rattle.model.specs.Log.{Note}
@@ -43,11 +42,12 @@ pub record Handled (S : Type 0) : Type 0 where
   pub state : S
   pub log : List Note
 
--- a memory: where its state has the DRK and how many bytes of memory it has, and how it handles each request
+-- a memory: where its state has the DRK, how many bytes of memory it has, how it handles each request, and what a power cut leaves of it
 pub record Memory (S : Type 0) : Type 0 where
   pub key : S → List ℕ
   pub size : S → ℕ
   pub handle : Request → S → Handled S
+  pub cut : S → S
 
 -- the result of a program with the memory's next state and the notes of all that was done, in order
 pub record Ran (Out S : Type 0) : Type 0 where

@@ -44,4 +44,4 @@ uncachedHandle c (rekey k) s = record { reply = some []; state = record { key = 
 
 -- the manual's memory
 unfoldable pub uncached : Cipher → Memory Uncached
-uncached c = record { key = λ s. s .key; size = λ s. length (s .mem); handle = uncachedHandle c }
+uncached c = record { key = λ s. s .key; size = λ s. length (s .mem); handle = uncachedHandle c; cut = λ s. s }

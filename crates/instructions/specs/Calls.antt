@@ -1,0 +1,151 @@
+-- The calls of the host: each on any memory, so that the machine with a cache and the machine without one cannot differ in a call by mistake.
+use Prim.Native.Nat.{ℕ, zero, suc, _+_}
+use mathlib.Core.Bool.{Bool, true, false}
+use mathlib.Core.List.{List, [], _∷_, _++_, map}
+use mathlib.Core.Option.{none, some}
+use lib.ListN.{length}
+use lib.Dec.{eqb}
+use Rattle.lists.specs.If.{if}
+use Rattle.model.specs.Cipher.{Cipher}
+use Rattle.model.specs.Log.{Note, Counts, countsOf}
+use Rattle.model.specs.Requests.{Request, evict, writeBack, Reply, Prog, ret, ask, Memory, Ran, perform}
+use Rattle.model.specs.Uncached.{Uncached, uncached}
+use Rattle.model.specs.Cached.{Cached, cached}
+use Rattle.instructions.specs.Rules.{firstOf}
+use Rattle.instructions.specs.Board.{Board}
+use Rattle.instructions.specs.Record.{Processor, reset}
+use Rattle.instructions.specs.Suspend.{entered}
+use Rattle.instructions.specs.Step.{Stepped, instruction}
+use Rattle.instructions.specs.Refusals.{cachedFlaws, uncachedFlaws, recordFlaws, lineFlaws, bufferFlaws, runFlaws}
+
+-- the machine calls but the listing, with the line, the n and the buffer that each is lent
+pub data Call : Type 0 where
+  -- run at most n instructions
+  run : ℕ → Call
+  interrupt : Call
+  -- bus read of a line into a buffer
+  busRead : ℕ → List ℕ → Call
+  -- bus write of a line from a buffer
+  busWrite : ℕ → List ℕ → Call
+  -- bus write of a MAC entry from a buffer
+  busMac : ℕ → List ℕ → Call
+  evictLine : ℕ → Call
+  writeBackAll : Call
+  reboot : Call
+  powerCut : Call
+
+-- the processor's record with the memory that it works on
+pub record Machine (S : Type 0) : Type 0 where
+  pub processor : Processor
+  pub memory : S
+
+-- what a call gives: the answer, the steps of run, the later bytes of its buffer, the machine, and the notes of which the counts are the sums
+pub record Result (S : Type 0) : Type 0 where
+  pub answer : ℕ
+  pub steps : ℕ
+  pub buffer : List ℕ
+  pub machine : Machine S
+  pub log : List Note
+
+-- the four counts of a call
+unfoldable pub counts : {S : Type 0} → Result S → Counts
+counts r = countsOf (r .log)
+
+-- a memory for the host's calls: how it works, and what of it is refused
+pub record House (S : Type 0) : Type 0 where
+  pub memory : Memory S
+  pub flaws : S → List (Bool × ℕ)
+
+-- the machine with a cache, and the machine without one
+unfoldable pub cachedHouse : Board → Cipher → House Cached
+cachedHouse B c = record { memory = cached c (B .placement); flaws = cachedFlaws B }
+
+unfoldable pub uncachedHouse : Board → Cipher → House Uncached
+uncachedHouse B c = record { memory = uncached c; flaws = uncachedFlaws }
+
+-- the buffer that a call is lent
+unfoldable pub bufferOf : Call → List ℕ
+bufferOf (run n) = []
+bufferOf interrupt = []
+bufferOf (busRead n x) = x
+bufferOf (busWrite n x) = x
+bufferOf (busMac n x) = x
+bufferOf (evictLine n) = []
+bufferOf writeBackAll = []
+bufferOf reboot = []
+bufferOf powerCut = []
+
+-- what of the call itself is refused, on a memory of M bytes
+unfoldable pub callFlaws : ℕ → Call → List (Bool × ℕ)
+callFlaws M (run n) = runFlaws n
+callFlaws M interrupt = []
+callFlaws M (busRead n x) = lineFlaws M n ++ bufferFlaws 64 x
+callFlaws M (busWrite n x) = lineFlaws M n ++ bufferFlaws 64 x
+callFlaws M (busMac n x) = lineFlaws M n ++ bufferFlaws 16 x
+callFlaws M (evictLine n) = lineFlaws M n
+callFlaws M writeBackAll = []
+callFlaws M reboot = []
+callFlaws M powerCut = []
+
+module _ {S : Type 0} (B : Board) (c : Cipher) (H : House S) where
+  -- the lowest number that applies to the call, and 0 where none does
+  unfoldable pub refusal : Call → Machine S → ℕ
+  refusal call m =
+      firstOf (H .flaws (m .memory) ++ (recordFlaws (m .processor) ++ callFlaws (H .memory .size (m .memory)) call))
+
+  -- one instruction on the machine
+  unfoldable pub step : Machine S → Ran Stepped S
+  step m = perform (H .memory) (instruction B c (H .memory .key (m .memory)) (H .memory .size (m .memory)) (m .processor)) (m .memory)
+
+  -- run: at most so many instructions more, after i were done; it stops behind the first step that faults, that step counted
+  unfoldable pub runFrom : ℕ → ℕ → Machine S → Result S
+  runFrom zero i m = record { answer = 0; steps = i; buffer = []; machine = m; log = [] }
+  runFrom (suc k) i m =
+      let s = step m in
+      let next : Machine S = record { processor = s .out .processor; memory = s .state } in
+      let rest = runFrom k (i + 1) next in
+      let going = eqb (s .out .fault) 0 in
+      record {
+        answer = if going (rest .answer) (s .out .fault);
+        steps = if going (rest .steps) (i + 1);
+        buffer = [];
+        machine = if going (rest .machine) next;
+        log = s .log ++ (if going (rest .log) [])
+      }
+
+  -- a call that is one request, after which the record is as given; the buffer gets what the reply makes of it
+  unfoldable pub asked : Request → Processor → (Reply → List ℕ) → Machine S → Result S
+  asked q r buffer m =
+      let h = H .memory .handle q (m .memory) in
+      record { answer = 0; steps = 0; buffer = buffer (h .reply); machine = record { processor = r; memory = h .state }; log = h .log }
+
+  -- a call that only changes the record
+  unfoldable pub changed : Processor → S → Result S
+  changed r s = record { answer = 0; steps = 0; buffer = []; machine = record { processor = r; memory = s }; log = [] }
+
+  -- the bytes of a reply, or the buffer as it was lent
+  unfoldable pub replied : List ℕ → Reply → List ℕ
+  replied x none = x
+  replied x (some line) = line
+
+  -- what a call does that is not refused
+  unfoldable pub accepted : Call → Machine S → Result S
+  accepted (run n) m = runFrom n 0 m
+  accepted interrupt m = changed (entered B c (H .memory .key (m .memory)) 32 (m .processor)) (m .memory)
+  accepted (busRead n x) m = asked (Request.busRead n) (m .processor) (replied x) m
+  accepted (busWrite n x) m = asked (Request.busWrite n x) (m .processor) (λ reply. x) m
+  accepted (busMac n x) m = asked (Request.busMac n x) (m .processor) (λ reply. x) m
+  accepted (evictLine n) m = asked (evict n) (m .processor) (λ reply. []) m
+  accepted writeBackAll m = asked writeBack (m .processor) (λ reply. []) m
+  accepted reboot m = asked writeBack (reset B (m .processor .cem .srh)) (λ reply. []) m
+  accepted powerCut m = changed (reset B (m .processor .cem .srh)) (H .memory .cut (m .memory))
+
+  -- a refused call: its number, nothing done, nothing counted, the buffer and the machine as they were
+  unfoldable pub refused : ℕ → Call → Machine S → Result S
+  refused n call m = record { answer = n; steps = 0; buffer = bufferOf call; machine = m; log = [] }
+
+  -- a machine call of the host
+  unfoldable pub called : Call → Machine S → Result S
+  called call m =
+      let n = refusal call m in
+      if (eqb n 0) (accepted call m) (refused n call m)
