@@ -45,9 +45,9 @@ signed-again c secureInstruction key n l k m h true e = e
 signed-again c secureInstruction key n l k m h false e = e
 signed-again c secureData key n l k m h d e = refl
 
-module _ (c : Cipher) (CL : CipherLaws c) (P : Placement) (L : PlacementLaws P) (N : ℕ) where
+module _ (c : Cipher) (CL : CipherLaws c) (P : Placement) (L : PlacementLaws P) (N C : ℕ) where
   -- using a place keeps the agreement
-  touch-agrees : (u : Uncached) (s : Cached) (p : ℕ) → Agree c P L N u s → p < length (s .dir) → Agree c P L N u (hitPlace P p s .state)
+  touch-agrees : (u : Uncached) (s : Cached) (p : ℕ) → Agree c P L N C u s → p < length (s .dir) → Agree c P L N C u (hitPlace P p s .state)
   unfolding hitPlace
   touch-agrees u s p A hp =
       record {
@@ -58,6 +58,7 @@ module _ (c : Cipher) (CL : CipherLaws c) (P : Placement) (L : PlacementLaws P) 
         mem = A .mem;
         macs = A .macs;
         cache = rw (L .touch-length (s .dir) p) (A .cache);
+        places = L .touch-length (s .dir) p ∙ A .places;
         orderly = L .touch-orderly (s .dir) p (A .orderly) hp;
         held = λ q hq w. rw (L .touch-look (s .dir) p q) (A .held q (rw (L .touch-length (s .dir) p) at hq) (rw (L .touch-look (s .dir) p q) at w));
         free =
@@ -68,7 +69,7 @@ module _ (c : Cipher) (CL : CipherLaws c) (P : Placement) (L : PlacementLaws P) 
       }
 
   -- a slot that serves is ready
-  hit-ready : (u : Uncached) (s : Cached) (tag : Tag) (n p : ℕ) → Agree c P L N u s → p < length (s .dir) → L .Mine N (s .dir) n p → serves (P .look (s .dir) p) tag n ≡ true → Ready c CL P L N u tag n p true (hitPlace P p s .state)
+  hit-ready : (u : Uncached) (s : Cached) (tag : Tag) (n p : ℕ) → Agree c P L N C u s → p < length (s .dir) → L .Mine N (s .dir) n p → serves (P .look (s .dir) p) tag n ≡ true → Ready c CL P L N C u tag n p true (hitPlace P p s .state)
   unfolding hitPlace holding
   hit-ready u s tag n p A hp m h =
       let e : P .look (s .dir) p ≡ holding n tag (P .look (s .dir) p .dirty) = serving (P .look (s .dir) p) tag n h in
@@ -84,7 +85,7 @@ module _ (c : Cipher) (CL : CipherLaws c) (P : Placement) (L : PlacementLaws P) 
       }
 
   -- a line is made ready at the place chosen for it
-  pub ready : (u : Uncached) (s : Cached) (tag : Tag) (n p : ℕ) → Agree c P L N u s → n < N → P .choose (s .dir) n ≡ p → Ready c CL P L N u tag n p (readyPlace c P tag n p s .ok) (readyPlace c P tag n p s .state)
+  pub ready : (u : Uncached) (s : Cached) (tag : Tag) (n p : ℕ) → Agree c P L N C u s → n < N → P .choose (s .dir) n ≡ p → Ready c CL P L N C u tag n p (readyPlace c P tag n p s .ok) (readyPlace c P tag n p s .state)
   unfolding readyPlace thenDo hitPlace
   ready u s tag n p A hn e =
       let hp : p < length (s .dir) = subst (λ (r : ℕ). r < length (s .dir)) e (L .choose-place (s .dir) n (A .orderly) hn) in
@@ -93,12 +94,12 @@ module _ (c : Cipher) (CL : CipherLaws c) (P : Placement) (L : PlacementLaws P) 
       (λ h. rw h (hit-ready u s tag n p A hp m h))
       (λ h.
       rw h
-      (fill-ready c CL P L N u (evictPlace c P p s .state) tag n p (evict-agrees c CL P L N u s p A hp)
-      (rw (evict-length c CL P L N s p) hp) hn (evict-here c CL P L N s p hp) (evict-frees c CL P L N s n p (A .orderly) hp e)
-      (evict-mine c CL P L N s p n p (A .orderly) hp m)))
+      (fill-ready c CL P L N C u (evictPlace c P p s .state) tag n p (evict-agrees c CL P L N C u s p A hp)
+      (rw (evict-length c CL P L N C s p) hp) hn (evict-here c CL P L N C s p hp) (evict-frees c CL P L N C s n p (A .orderly) hp e)
+      (evict-mine c CL P L N C s p n p (A .orderly) hp m)))
 
   -- a change of a held line, in the slot here and in memory there
-  module _ (u : Uncached) (s : Cached) (tag : Tag) (n p : ℕ) (dirty : Bool) (b : List ℕ) (A : Agree c P L N u s) (hp : p < length (s .dir)) (hn : n < N)
+  module _ (u : Uncached) (s : Cached) (tag : Tag) (n p : ℕ) (dirty : Bool) (b : List ℕ) (A : Agree c P L N C u s) (hp : p < length (s .dir)) (hn : n < N)
       (e : P .look (s .dir) p ≡ holding n tag dirty) (m : L .Mine N (s .dir) n p) (t : tag ≡ secureInstruction → ⊥) (z : Sized 64 b) where
     abbrev line : List ℕ
     line = stored c tag (s .key) n b
@@ -133,17 +134,17 @@ module _ (c : Cipher) (CL : CipherLaws c) (P : Placement) (L : PlacementLaws P) 
         let h : HeldAt c (holding n tag dirty) p u s = rw e at (A .held p hp used) in
         signed-again c tag (s .key) n line (stored c tag (s .key) n (lineAt p (s .cache))) (macAt n (u .macs)) (macAt n (s .macs)) dirty (h .macs)
 
-    write-agrees : Agree c P L N written changed
+    write-agrees : Agree c P L N C written changed
     unfolding lineAt macAt putLine putMac holding
     write-agrees =
         let put : P .look (P .put (s .dir) p (holding n tag true)) p ≡ holding n tag true = L .put-here (s .dir) n p tag true (A .orderly) hp hn in
         let here : lineAt p (changed .cache) ≡ b = nth-put-here 64 (length (s .dir)) (s .cache) (A .cache) true p b hp (z .size) in
         let atHome : lineAt n (written .mem) ≡ line = nth-put-here 64 N (u .mem) (A .plainMem .size) true n line hn (line-fits .size) in
         let atMacs : macAt n (written .macs) ≡ mac = nth-put-here 16 N (u .macs) (A .plainMacs) true n mac hn mac-fits in
-        update-agrees c P L N n p u written s changed A hp
+        update-agrees c P L N C n p u written s changed A hp
         (record {
           occupant = λ w. named;
-          alone = λ q a hq w i. a (one-place c P L N (s .dir) p q (A .orderly) hp hq used w (i ∙ sym named));
+          alone = λ q a hq w i. a (one-place c P L N C (s .dir) p q (A .orderly) hp hq used w (i ∙ sym named));
           named = λ w. ap (λ (x : Entry). x .line) put;
           plainKey = sym (A .keys);
           key = refl;
@@ -177,7 +178,7 @@ module _ (c : Cipher) (CL : CipherLaws c) (P : Placement) (L : PlacementLaws P) 
         })
 
   -- once the line is ready, the reply and the change are alike
-  module _ (u : Uncached) (t : Cached) (tag : Tag) (n p : ℕ) (ok write : Bool) (change : List ℕ → List ℕ) (R : Ready c CL P L N u tag n p ok t) (hn : n < N)
+  module _ (u : Uncached) (t : Cached) (tag : Tag) (n p : ℕ) (ok write : Bool) (change : List ℕ → List ℕ) (R : Ready c CL P L N C u tag n p ok t) (hn : n < N)
       (k : write ≡ true → tag ≡ secureInstruction → ⊥) (lines : (l : List ℕ) → Sized 64 l → Sized 64 (change l)) where
     -- where the check passes, both see the same bytes
     viewed : ok ≡ true → seen c tag (u .key) n (lineAt n (u .mem)) ≡ lineAt p (t .cache)
@@ -192,7 +193,7 @@ module _ (c : Cipher) (CL : CipherLaws c) (P : Placement) (L : PlacementLaws P) 
     unfolding uncachedHandle
     reply-alike = by-test ok (λ h. rw (← R .told, h) (ap some (viewed h))) (λ h. rw (← R .told, h))
 
-    pub state-alike : Agree c P L N (uncachedHandle c (access tag n write change) u .state) (writePlace P tag n p (ok && write) change t)
+    pub state-alike : Agree c P L N C (uncachedHandle c (access tag n write change) u .state) (writePlace P tag n p (ok && write) change t)
     unfolding uncachedHandle writePlace holding
     state-alike =
         rw (← R .told)
@@ -202,6 +203,6 @@ module _ (c : Cipher) (CL : CipherLaws c) (P : Placement) (L : PlacementLaws P) 
         (λ v.
         rw (h, v, viewed h, R .agrees .keys)
         (write-agrees u t tag n p (R .entry h .0) (change (lineAt p (t .cache))) (R .agrees) (R .place) hn (R .entry h .1) (R .mine h) (k v)
-        (lines (lineAt p (t .cache)) (body-sized c CL P L N u t p (R .agrees) (R .place) (ap (λ (x : Entry). x .used) (R .entry h .1))))))
+        (lines (lineAt p (t .cache)) (body-sized c CL P L N C u t p (R .agrees) (R .place) (ap (λ (x : Entry). x .used) (R .entry h .1))))))
         (λ v. rw (h, v) (R .agrees)))
         (λ h. rw h (R .agrees)))

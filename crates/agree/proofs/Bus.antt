@@ -21,7 +21,7 @@ use Rattle.agree.specs.Agree.{Held, HeldAt, Free, Same, Agree}
 use Rattle.agree.proofs.Update.{held-moves}
 use Rattle.agree.proofs.Evict.{evict-agrees, evict-frees}
 
-module _ (c : Cipher) (CL : CipherLaws c) (P : Placement) (L : PlacementLaws P) (N : ℕ) where
+module _ (c : Cipher) (CL : CipherLaws c) (P : Placement) (L : PlacementLaws P) (N C : ℕ) where
   -- a line that its place does not hold is held nowhere
   free-unless : (d : List ℕ) (n : ℕ) → L .Orderly N d → holds (P .look d (P .choose d n)) n ≡ false → Free P d n
   unfolding holds
@@ -35,22 +35,22 @@ module _ (c : Cipher) (CL : CipherLaws c) (P : Placement) (L : PlacementLaws P) 
       }
 
   -- evicting a line keeps the agreement, and then no place holds it
-  pub drop-agrees : (u : Uncached) (s : Cached) (n : ℕ) → n < N → Agree c P L N u s → Agree c P L N u (evictLine c P n s .state)
+  pub drop-agrees : (u : Uncached) (s : Cached) (n : ℕ) → n < N → Agree c P L N C u s → Agree c P L N C u (evictLine c P n s .state)
   unfolding evictLine
   drop-agrees u s n hn A =
       by-test (holds (P .look (s .dir) (P .choose (s .dir) n)) n)
-      (λ h. rw h (evict-agrees c CL P L N u s (P .choose (s .dir) n) A (L .choose-place (s .dir) n (A .orderly) hn)))
+      (λ h. rw h (evict-agrees c CL P L N C u s (P .choose (s .dir) n) A (L .choose-place (s .dir) n (A .orderly) hn)))
       (λ h. rw h A)
 
   pub drop-frees : (s : Cached) (n : ℕ) → n < N → L .Orderly N (s .dir) → Free P (evictLine c P n s .state .dir) n
   unfolding evictLine
   drop-frees s n hn o =
       by-test (holds (P .look (s .dir) (P .choose (s .dir) n)) n)
-      (λ h. rw h (evict-frees c CL P L N s n (P .choose (s .dir) n) o (L .choose-place (s .dir) n o hn) refl))
+      (λ h. rw h (evict-frees c CL P L N C s n (P .choose (s .dir) n) o (L .choose-place (s .dir) n o hn) refl))
       (λ h. rw h (free-unless (s .dir) n o h))
 
   -- a line that no place holds, or its MAC entry, is written over the bus in both
-  module _ (u : Uncached) (s : Cached) (n : ℕ) (hn : n < N) (A : Agree c P L N u s) (f : Free P (s .dir) n)
+  module _ (u : Uncached) (s : Cached) (n : ℕ) (hn : n < N) (A : Agree c P L N C u s) (f : Free P (s .dir) n)
       (w v : Bool) (x y : List ℕ) (zx : Sized 64 x) (zy : length y ≡ 16) where
     abbrev plain : Uncached
     plain = record { key = u .key; mem = if w (putLine n x (u .mem)) (u .mem); macs = if v (putMac n y (u .macs)) (u .macs) }
@@ -65,7 +65,7 @@ module _ (c : Cipher) (CL : CipherLaws c) (P : Placement) (L : PlacementLaws P) 
           dir = s .dir;
         }
 
-    pub bus-agrees : Agree c P L N plain after
+    pub bus-agrees : Agree c P L N C plain after
     unfolding lineAt macAt putLine putMac
     bus-agrees =
         record {
@@ -84,6 +84,7 @@ module _ (c : Cipher) (CL : CipherLaws c) (P : Placement) (L : PlacementLaws P) 
               };
           macs = nth-put-length 16 N (s .macs) (A .macs) v n y hn zy;
           cache = A .cache;
+          places = A .places;
           orderly = A .orderly;
           held =
               λ q hq h.

@@ -23,7 +23,7 @@ use Rattle.model.specs.Cached.{Cached, thenDo, evictPlace, evictFrom, evictAll,
 use Rattle.agree.specs.Agree.{Held, HeldAt, Free, Same, Agree, AllEmpty}
 use Rattle.agree.proofs.Evict.{evict-agrees, evict-length, evict-here, evict-other}
 
-module _ (c : Cipher) (CL : CipherLaws c) (P : Placement) (L : PlacementLaws P) (N : ℕ) where
+module _ (c : Cipher) (CL : CipherLaws c) (P : Placement) (L : PlacementLaws P) (N C : ℕ) where
   -- the places below m are empty
   record EmptyBelow (m : ℕ) (d : List ℕ) : Type 0 where
     none : (p : ℕ) → p < m → p < length d → P .look d p .used ≡ false
@@ -39,11 +39,11 @@ module _ (c : Cipher) (CL : CipherLaws c) (P : Placement) (L : PlacementLaws P) 
             (λ z. rw (o q z) (E .none q (omega arith) (rw e at b)));
       }
 
-  flush-agrees : (k p : ℕ) (u : Uncached) (s : Cached) → p + k ≡ length (s .dir) → Agree c P L N u s → Agree c P L N u (evictFrom c P k p s .state)
+  flush-agrees : (k p : ℕ) (u : Uncached) (s : Cached) → p + k ≡ length (s .dir) → Agree c P L N C u s → Agree c P L N C u (evictFrom c P k p s .state)
   unfolding evictFrom thenDo
   flush-agrees zero p u s e A = A
   flush-agrees (suc k) p u s e A =
-      flush-agrees k (p + 1) u (evictPlace c P p s .state) (rw (evict-length c CL P L N s p) (omega arith)) (evict-agrees c CL P L N u s p A (omega arith))
+      flush-agrees k (p + 1) u (evictPlace c P p s .state) (rw (evict-length c CL P L N C s p) (omega arith)) (evict-agrees c CL P L N C u s p A (omega arith))
 
   all-of-them : (p : ℕ) (d : List ℕ) → p ≡ length d → EmptyBelow p d → AllEmpty P d
   all-of-them p d e E = record { unused = λ q h. E .none q (omega arith) h }
@@ -52,11 +52,11 @@ module _ (c : Cipher) (CL : CipherLaws c) (P : Placement) (L : PlacementLaws P) 
   unfolding evictFrom thenDo
   flush-empties zero p s e E = all-of-them p (s .dir) (omega arith) E
   flush-empties (suc k) p s e E =
-      flush-empties k (p + 1) (evictPlace c P p s .state) (rw (evict-length c CL P L N s p) (omega arith))
-      (one-more p (s .dir) (evictPlace c P p s .state .dir) E (evict-length c CL P L N s p) (evict-here c CL P L N s p) (evict-other c CL P L N s p))
+      flush-empties k (p + 1) (evictPlace c P p s .state) (rw (evict-length c CL P L N C s p) (omega arith))
+      (one-more p (s .dir) (evictPlace c P p s .state .dir) E (evict-length c CL P L N C s p) (evict-here c CL P L N C s p) (evict-other c CL P L N C s p))
 
   -- after everything is written back the memories still agree, and every place is empty
-  pub all-agrees : (u : Uncached) (s : Cached) → Agree c P L N u s → Agree c P L N u (evictAll c P s .state)
+  pub all-agrees : (u : Uncached) (s : Cached) → Agree c P L N C u s → Agree c P L N C u (evictAll c P s .state)
   unfolding evictAll
   all-agrees u s A = flush-agrees (length (s .dir)) 0 u s (omega arith) A
 
@@ -70,17 +70,18 @@ module _ (c : Cipher) (CL : CipherLaws c) (P : Placement) (L : PlacementLaws P) 
     pub mem : Sized (N * 64) (s .mem)
     pub macs : length (s .macs) ≡ N * 16
     pub cache : length (s .cache) ≡ length (s .dir) * 64
+    pub places : length (s .dir) ≡ C
     pub orderly : L .Orderly N (s .dir)
 
-  pub proper : (u : Uncached) (s : Cached) → Agree c P L N u s → Proper s
-  proper u s A = record { key = A .key; mem = A .mem; macs = A .macs; cache = A .cache; orderly = A .orderly }
+  pub proper : (u : Uncached) (s : Cached) → Agree c P L N C u s → Proper s
+  proper u s A = record { key = A .key; mem = A .mem; macs = A .macs; cache = A .cache; places = A .places; orderly = A .orderly }
 
   -- the manual's memory that has what memory and MAC area have
   abbrev pub asItStands : Cached → Uncached
   asItStands s = record { key = s .key; mem = s .mem; macs = s .macs }
 
   -- with every place empty, memory and MAC area as they stand agree: at the start, and after a cut
-  pub fresh-agrees : (s : Cached) → Proper s → AllEmpty P (s .dir) → Agree c P L N (asItStands s) s
+  pub fresh-agrees : (s : Cached) → Proper s → AllEmpty P (s .dir) → Agree c P L N C (asItStands s) s
   fresh-agrees s r E =
       record {
         keys = refl;
@@ -90,6 +91,7 @@ module _ (c : Cipher) (CL : CipherLaws c) (P : Placement) (L : PlacementLaws P) 
         mem = r .mem;
         macs = r .macs;
         cache = r .cache;
+        places = r .places;
         orderly = r .orderly;
         held = λ p h w. absurd (false≢true (sym (E .unused p h) ∙ w));
         free = λ n h f. record { lines = refl; macs = refl };
@@ -99,20 +101,20 @@ module _ (c : Cipher) (CL : CipherLaws c) (P : Placement) (L : PlacementLaws P) 
   nowhere d n E = record { nowhere = λ p h w z. false≢true (sym (E .unused p h) ∙ w) }
 
   -- with every place empty, the two memories are one
-  pub same-mem : (u : Uncached) (s : Cached) → Agree c P L N u s → AllEmpty P (s .dir) → u .mem ≡ s .mem
+  pub same-mem : (u : Uncached) (s : Cached) → Agree c P L N C u s → AllEmpty P (s .dir) → u .mem ≡ s .mem
   unfolding lineAt
   same-mem u s A E = by-parts 64 N (u .mem) (s .mem) (A .plainMem .size) (A .mem .size) (λ n h. A .free n h (nowhere (s .dir) n E) .lines)
 
-  pub same-macs : (u : Uncached) (s : Cached) → Agree c P L N u s → AllEmpty P (s .dir) → u .macs ≡ s .macs
+  pub same-macs : (u : Uncached) (s : Cached) → Agree c P L N C u s → AllEmpty P (s .dir) → u .macs ≡ s .macs
   unfolding macAt
   same-macs u s A E = by-parts 16 N (u .macs) (s .macs) (A .plainMacs) (A .macs) (λ n h. A .free n h (nowhere (s .dir) n E) .macs)
 
   -- with every place empty, another key may be taken
-  pub rekey-agrees : (u : Uncached) (s : Cached) (k : List ℕ) → Agree c P L N u s → AllEmpty P (s .dir) → Sized 16 k → Agree c P L N (record { key = k; mem = u .mem; macs = u .macs }) (record { key = k; mem = s .mem; macs = s .macs; cache = s .cache; dir = s .dir })
+  pub rekey-agrees : (u : Uncached) (s : Cached) (k : List ℕ) → Agree c P L N C u s → AllEmpty P (s .dir) → Sized 16 k → Agree c P L N C (record { key = k; mem = u .mem; macs = u .macs }) (record { key = k; mem = s .mem; macs = s .macs; cache = s .cache; dir = s .dir })
   rekey-agrees u s k A E z =
       rw (same-mem u s A E, same-macs u s A E)
       (fresh-agrees (record { key = k; mem = s .mem; macs = s .macs; cache = s .cache; dir = s .dir })
-      (record { key = z; mem = A .mem; macs = A .macs; cache = A .cache; orderly = A .orderly }) E)
+      (record { key = z; mem = A .mem; macs = A .macs; cache = A .cache; places = A .places; orderly = A .orderly }) E)
 
   -- a slot that is lost: memory and MAC area stand, the rest is as after an eviction
   lose-proper : (s : Cached) (p : ℕ) → p < length (s .dir) → Proper s → Proper (losePlace P p s)
@@ -126,6 +128,7 @@ module _ (c : Cipher) (CL : CipherLaws c) (P : Placement) (L : PlacementLaws P) 
             by-test (P .look (s .dir) p .used)
             (λ h. rw (h, L .clear-length (s .dir) p) (nth-put-length 64 (length (s .dir)) (s .cache) (r .cache) true p (zeros 64) hp (length-zeros 64)))
             (λ h. rw h (r .cache));
+        places = by-test (P .look (s .dir) p .used) (λ h. rw h (L .clear-length (s .dir) p ∙ r .places)) (λ h. rw h (r .places));
         orderly = by-test (P .look (s .dir) p .used) (λ h. rw h (L .clear-orderly (s .dir) p (r .orderly) hp)) (λ h. rw h (r .orderly));
       }
 
@@ -146,18 +149,18 @@ module _ (c : Cipher) (CL : CipherLaws c) (P : Placement) (L : PlacementLaws P) 
   losing zero p s e E r = record { keys = refl; mems = refl; macs = refl; rest = r; gone = all-of-them p (s .dir) (omega arith) E }
   losing (suc k) p s e E r =
       let t = losePlace P p s in
-      let l : length (t .dir) ≡ length (s .dir) = rw (lose-dir s p) (evict-length c CL P L N s p) in
+      let l : length (t .dir) ≡ length (s .dir) = rw (lose-dir s p) (evict-length c CL P L N C s p) in
       let rec : Lost t (loseFrom P k (p + 1) t) =
       losing k (p + 1) t (rw l (omega arith))
-      (one-more p (s .dir) (t .dir) E l (λ h. rw (lose-dir s p) (evict-here c CL P L N s p h)) (λ q d. rw (lose-dir s p) (evict-other c CL P L N s p q d)))
+      (one-more p (s .dir) (t .dir) E l (λ h. rw (lose-dir s p) (evict-here c CL P L N C s p h)) (λ q d. rw (lose-dir s p) (evict-other c CL P L N C s p q d)))
       (lose-proper s p (omega arith) r) in
       record { keys = rec .keys; mems = rec .mems; macs = rec .macs; rest = rec .rest; gone = rec .gone }
 
   -- after a power cut the manual's memory is given what the cut left, and the two agree
-  pub cut-agrees : (s : Cached) → Proper s → Agree c P L N (asItStands s) (loseAll P s)
+  pub cut-agrees : (s : Cached) → Proper s → Agree c P L N C (asItStands s) (loseAll P s)
   unfolding loseAll
   cut-agrees s r =
       let t = loseFrom P (length (s .dir)) 0 s in
       let l : Lost s t = losing (length (s .dir)) 0 s (omega arith) (record { none = λ q a b. absurd (omega arith) }) r in
       let e : asItStands t ≡ asItStands s = λ i. record { key = l .keys i; mem = l .mems i; macs = l .macs i } in
-      subst (λ (u : Uncached). Agree c P L N u t) e (fresh-agrees t (l .rest) (l .gone))
+      subst (λ (u : Uncached). Agree c P L N C u t) e (fresh-agrees t (l .rest) (l .gone))

@@ -22,15 +22,15 @@ use Rattle.model.proofs.LineLaws.{line-sized, mac-length, seen-sized, stored-si
 use Rattle.agree.proofs.Update.{one-place, update-agrees}
 use Rattle.agree.specs.Agree.{Held, HeldAt, Free, Same, Agree}
 
-module _ (c : Cipher) (CL : CipherLaws c) (P : Placement) (L : PlacementLaws P) (N : ℕ) where
+module _ (c : Cipher) (CL : CipherLaws c) (P : Placement) (L : PlacementLaws P) (N C : ℕ) where
   -- the bytes of a held line are 64 bytes
-  pub body-sized : (u : Uncached) (s : Cached) (p : ℕ) → Agree c P L N u s → p < length (s .dir) → P .look (s .dir) p .used ≡ true → Sized 64 (lineAt p (s .cache))
+  pub body-sized : (u : Uncached) (s : Cached) (p : ℕ) → Agree c P L N C u s → p < length (s .dir) → P .look (s .dir) p .used ≡ true → Sized 64 (lineAt p (s .cache))
   body-sized u s p A hp h =
       let e = P .look (s .dir) p in
       rw (A .held p hp h .viewed) (seen-sized c CL (s .key) (A .key) (e .line) (e .tag) (lineAt (e .line) (u .mem)) (line-sized N (e .line) (u .mem) (A .plainMem) (L .held-line (s .dir) p (A .orderly) hp h)))
 
   -- a used slot is evicted
-  module _ (u : Uncached) (s : Cached) (p : ℕ) (A : Agree c P L N u s) (hp : p < length (s .dir)) (h : P .look (s .dir) p .used ≡ true) where
+  module _ (u : Uncached) (s : Cached) (p : ℕ) (A : Agree c P L N C u s) (hp : p < length (s .dir)) (h : P .look (s .dir) p .used ≡ true) where
     abbrev e : Entry
     e = P .look (s .dir) p
 
@@ -61,13 +61,13 @@ module _ (c : Cipher) (CL : CipherLaws c) (P : Placement) (L : PlacementLaws P) 
         signed-length c CL (s .key) (A .key) (e .line) (e .tag) line (macAt (e .line) (s .macs)) line-fits
         (mac-length N (e .line) (s .macs) (A .macs) in-memory)
 
-    evict-used : Agree c P L N u next
+    evict-used : Agree c P L N C u next
     unfolding lineAt macAt putLine putMac
     evict-used =
-        update-agrees c P L N (e .line) p u u s next A hp
+        update-agrees c P L N C (e .line) p u u s next A hp
         (record {
           occupant = λ w. refl;
-          alone = λ q d hq w z. d (one-place c P L N (s .dir) p q (A .orderly) hp hq h w z);
+          alone = λ q d hq w z. d (one-place c P L N C (s .dir) p q (A .orderly) hp hq h w z);
           named = λ w. absurd (false≢true (sym (L .clear-here (s .dir) p hp) ∙ w));
           plainKey = refl;
           key = refl;
@@ -102,7 +102,7 @@ module _ (c : Cipher) (CL : CipherLaws c) (P : Placement) (L : PlacementLaws P) 
   unfolding evictPlace
   evict-empty s p o hp h = rw (L .empty-clean (s .dir) p o hp h, h)
 
-  pub evict-agrees : (u : Uncached) (s : Cached) (p : ℕ) → Agree c P L N u s → p < length (s .dir) → Agree c P L N u (evictPlace c P p s .state)
+  pub evict-agrees : (u : Uncached) (s : Cached) (p : ℕ) → Agree c P L N C u s → p < length (s .dir) → Agree c P L N C u (evictPlace c P p s .state)
   unfolding evictPlace
   evict-agrees u s p A hp =
       by-test (P .look (s .dir) p .used)

@@ -30,16 +30,16 @@ clean-tame t = record { tame = λ e. refl }
 abbrev refill : Cached → ℕ → List ℕ → List ℕ → Cached
 refill s p d b = record { key = s .key; mem = s .mem; macs = s .macs; cache = putLine p b (s .cache); dir = d }
 
-module _ (c : Cipher) (CL : CipherLaws c) (P : Placement) (L : PlacementLaws P) (N : ℕ) where
+module _ (c : Cipher) (CL : CipherLaws c) (P : Placement) (L : PlacementLaws P) (N C : ℕ) where
   -- the wanted line is ready in slot p, or both memories know that its check fails
   pub record Ready (u : Uncached) (tag : Tag) (n p : ℕ) (ok : Bool) (s : Cached) : Type 0 where
-    pub agrees : Agree c P L N u s
+    pub agrees : Agree c P L N C u s
     pub place : p < length (s .dir)
     pub told : ok ≡ passes c tag (u .key) n (lineAt n (u .mem)) (macAt n (u .macs))
     pub entry : ok ≡ true → (dirty : Bool) × (P .look (s .dir) p ≡ holding n tag dirty)
     pub mine : ok ≡ true → L .Mine N (s .dir) n p
 
-  module _ (u : Uncached) (s : Cached) (tag : Tag) (n p : ℕ) (A : Agree c P L N u s) (hp : p < length (s .dir)) (hn : n < N)
+  module _ (u : Uncached) (s : Cached) (tag : Tag) (n p : ℕ) (A : Agree c P L N C u s) (hp : p < length (s .dir)) (hn : n < N)
       (gone : P .look (s .dir) p .used ≡ false) (f : Free P (s .dir) n) (m : L .Mine N (s .dir) n p) where
     -- where the line stands it is the same in both memories
     alike : Same n u s
@@ -59,10 +59,10 @@ module _ (c : Cipher) (CL : CipherLaws c) (P : Placement) (L : PlacementLaws P) 
     module _ (d : List ℕ) (b : List ℕ) (fits : length b ≡ 64) (places : length d ≡ length (s .dir))
         (looks : (q : ℕ) → q ≢ p → P .look d q ≡ P .look (s .dir) q) (o : L .Orderly N d)
         (named : P .look d p .used ≡ true → (P .look d p ≡ holding n tag false) × (ok ≡ true) × (b ≡ body)) where
-      refilled : Agree c P L N u (refill s p d b)
+      refilled : Agree c P L N C u (refill s p d b)
       unfolding lineAt macAt putLine holding
       refilled =
-          update-agrees c P L N n p u u s (refill s p d b) A hp
+          update-agrees c P L N C n p u u s (refill s p d b) A hp
           (record {
             occupant = λ w. absurd (false≢true (sym gone ∙ w));
             alone = λ q a hq w z. f .nowhere q hq w z;

@@ -25,53 +25,53 @@ use Rattle.agree.proofs.Everything.{all-agrees, all-empties, rekey-agre
 zeros-sized : (k : ℕ) → Sized k (zeros k)
 zeros-sized k = record { size = length-zeros k; bytes = bytes-zeros k }
 
-module _ (c : Cipher) (CL : CipherLaws c) (P : Placement) (L : PlacementLaws P) (N : ℕ) where
+module _ (c : Cipher) (CL : CipherLaws c) (P : Placement) (L : PlacementLaws P) (N C : ℕ) where
   -- the same reply, and states that agree
   pub record Alike (h : Handled Uncached) (g : Handled Cached) : Type 0 where
     pub replies : h .reply ≡ g .reply
-    pub states : Agree c P L N (h .state) (g .state)
+    pub states : Agree c P L N C (h .state) (g .state)
 
-  pub answers-alike : (q : Request) (u : Uncached) (s : Cached) → Fair N q → Agree c P L N u s → Alike (uncachedHandle c q u) (cachedHandle c P q s)
+  pub answers-alike : (q : Request) (u : Uncached) (s : Cached) → Fair N q → Agree c P L N C u s → Alike (uncachedHandle c q u) (cachedHandle c P q s)
   unfolding uncachedHandle cachedHandle accessPlace
   answers-alike (access tag n write change) u s (fair-access hn k lines) A =
       let p = P .choose (s .dir) n in
       let r = readyPlace c P tag n p s in
-      let R = ready c CL P L N u s tag n p A hn refl in
+      let R = ready c CL P L N C u s tag n p A hn refl in
       record {
-        replies = reply-alike c CL P L N u (r .state) tag n p (r .ok) write change R hn k lines;
-        states = state-alike c CL P L N u (r .state) tag n p (r .ok) write change R hn k lines;
+        replies = reply-alike c CL P L N C u (r .state) tag n p (r .ok) write change R hn k lines;
+        states = state-alike c CL P L N C u (r .state) tag n p (r .ok) write change R hn k lines;
       }
-  answers-alike (evict n) u s (fair-evict hn) A = record { replies = refl; states = drop-agrees c CL P L N u s n hn A }
+  answers-alike (evict n) u s (fair-evict hn) A = record { replies = refl; states = drop-agrees c CL P L N C u s n hn A }
   answers-alike (busRead n) u s (fair-busRead hn) A =
-      let B : Agree c P L N u (evictLine c P n s .state) = drop-agrees c CL P L N u s n hn A in
-      record { replies = ap some (B .free n hn (drop-frees c CL P L N s n hn (A .orderly)) .lines); states = B }
+      let B : Agree c P L N C u (evictLine c P n s .state) = drop-agrees c CL P L N C u s n hn A in
+      record { replies = ap some (B .free n hn (drop-frees c CL P L N C s n hn (A .orderly)) .lines); states = B }
   answers-alike (busWrite n x) u s (fair-busWrite hn z) A =
       record {
         replies = refl;
         states =
-            bus-agrees c CL P L N u (evictLine c P n s .state) n hn (drop-agrees c CL P L N u s n hn A) (drop-frees c CL P L N s n hn (A .orderly))
+            bus-agrees c CL P L N C u (evictLine c P n s .state) n hn (drop-agrees c CL P L N C u s n hn A) (drop-frees c CL P L N C s n hn (A .orderly))
             true false x (zeros 16) z (length-zeros 16);
       }
   answers-alike (busMac n x) u s (fair-busMac hn z) A =
       record {
         replies = refl;
         states =
-            bus-agrees c CL P L N u (evictLine c P n s .state) n hn (drop-agrees c CL P L N u s n hn A) (drop-frees c CL P L N s n hn (A .orderly))
+            bus-agrees c CL P L N C u (evictLine c P n s .state) n hn (drop-agrees c CL P L N C u s n hn A) (drop-frees c CL P L N C s n hn (A .orderly))
             false true (zeros 64) x (zeros-sized 64) (z .size);
       }
-  answers-alike writeBack u s fair-writeBack A = record { replies = refl; states = all-agrees c CL P L N u s A }
+  answers-alike writeBack u s fair-writeBack A = record { replies = refl; states = all-agrees c CL P L N C u s A }
   answers-alike (rekey k) u s (fair-rekey z) A =
       record {
         replies = refl;
-        states = rekey-agrees c CL P L N u (evictAll c P s .state) k (all-agrees c CL P L N u s A) (all-empties c CL P L N s) z;
+        states = rekey-agrees c CL P L N C u (evictAll c P s .state) k (all-agrees c CL P L N C u s A) (all-empties c CL P L N C s) z;
       }
 
   -- the same result, and states that agree
   pub record RanAlike {Out : Type 0} (h : Ran Out Uncached) (g : Ran Out Cached) : Type 0 where
     pub outs : h .out ≡ g .out
-    pub states : Agree c P L N (h .state) (g .state)
+    pub states : Agree c P L N C (h .state) (g .state)
 
-  pub runs-alike : {Out : Type 0} (q : Prog Out) (u : Uncached) (s : Cached) → Sound N q → Agree c P L N u s → RanAlike (perform (uncached c) q u) (perform (cached c P) q s)
+  pub runs-alike : {Out : Type 0} (q : Prog Out) (u : Uncached) (s : Cached) → Sound N q → Agree c P L N C u s → RanAlike (perform (uncached c) q u) (perform (cached c P) q s)
   unfolding perform uncached cached
   runs-alike (ret o) u s sound-ret A = record { outs = refl; states = A }
   runs-alike {Out} (ask q k) u s (sound-ask f g) A =

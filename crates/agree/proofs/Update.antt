@@ -19,7 +19,7 @@ use Rattle.agree.specs.Agree.{Held, HeldAt, Free, Same, Agree}
 pub held-moves : (c : Cipher) (e : Entry) {key key′ l m h g b l′ m′ h′ g′ b′ : List ℕ} → key ≡ key′ → l ≡ l′ → m ≡ m′ → h ≡ h′ → g ≡ g′ → b ≡ b′ → Held c key e l m h g b → Held c key′ e l′ m′ h′ g′ b′
 held-moves c e k p q r t v H = rw (← k, ← p, ← q, ← r, ← t, ← v) H
 
-module _ (c : Cipher) (P : Placement) (L : PlacementLaws P) (N : ℕ) where
+module _ (c : Cipher) (P : Placement) (L : PlacementLaws P) (N C : ℕ) where
   -- two used places that hold one line are one place
   pub one-place : (d : List ℕ) (p q : ℕ) → L .Orderly N d → p < length d → q < length d → P .look d p .used ≡ true → P .look d q .used ≡ true → P .look d q .line ≡ P .look d p .line → q ≡ p
   one-place d p q o hp hq up uq e = sym (L .held-chosen d q o hq uq) ∙ (ap (P .choose d) e ∙ L .held-chosen d p o hp up)
@@ -51,7 +51,7 @@ module _ (c : Cipher) (P : Placement) (L : PlacementLaws P) (N : ℕ) where
     pub here : P .look (s′ .dir) p .used ≡ true → HeldAt c (P .look (s′ .dir) p) p u′ s′
     pub home : P .look (s′ .dir) p .used ≡ false → Same n u′ s′
 
-  module _ (n p : ℕ) (u u′ : Uncached) (s s′ : Cached) (A : Agree c P L N u s) (hp : p < length (s .dir)) (U : Updated n p u u′ s s′) where
+  module _ (n p : ℕ) (u u′ : Uncached) (s s′ : Cached) (A : Agree c P L N C u s) (hp : p < length (s .dir)) (U : Updated n p u u′ s s′) where
     others : (q : ℕ) → q ≢ p → q < length (s .dir) → P .look (s .dir) q .used ≡ true → HeldAt c (P .look (s .dir) q) q u′ s′
     others q d hq w =
         let i = P .look (s .dir) q .line in
@@ -78,7 +78,7 @@ module _ (c : Cipher) (P : Placement) (L : PlacementLaws P) (N : ℕ) where
           macs = U .plainMacs i a ∙ (z .macs ∙ sym (U .macs i a));
         }
 
-    pub update-agrees : Agree c P L N u′ s′
+    pub update-agrees : Agree c P L N C u′ s′
     update-agrees =
         record {
           keys = U .plainKey ∙ (A .keys ∙ sym (U .key));
@@ -88,6 +88,7 @@ module _ (c : Cipher) (P : Placement) (L : PlacementLaws P) (N : ℕ) where
           mem = U .memSize;
           macs = U .macsSize;
           cache = rw (U .places) (U .cacheSize);
+          places = U .places ∙ A .places;
           orderly = U .orderly;
           held =
               λ q hq w.

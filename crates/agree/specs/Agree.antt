@@ -39,8 +39,8 @@ abbrev pub HeldAt : Cipher → Entry → ℕ → Uncached → Cached → Type 0
 HeldAt c e p u s =
     Held c (s .key) e (lineAt (e .line) (u .mem)) (macAt (e .line) (u .macs)) (lineAt (e .line) (s .mem)) (macAt (e .line) (s .macs)) (lineAt p (s .cache))
 
--- the two memories, of N lines, agree
-pub record Agree (c : Cipher) (P : Placement) (L : PlacementLaws P) (N : ℕ) (u : Uncached) (s : Cached) : Type 0 where
+-- the two memories, of N lines and with C slots in the cache, agree
+pub record Agree (c : Cipher) (P : Placement) (L : PlacementLaws P) (N C : ℕ) (u : Uncached) (s : Cached) : Type 0 where
   pub keys : u .key ≡ s .key
   pub key : Sized 16 (s .key)
   pub plainMem : Sized (N * 64) (u .mem)
@@ -48,6 +48,7 @@ pub record Agree (c : Cipher) (P : Placement) (L : PlacementLaws P) (N : ℕ) (u
   pub mem : Sized (N * 64) (s .mem)
   pub macs : length (s .macs) ≡ N * 16
   pub cache : length (s .cache) ≡ length (s .dir) * 64
+  pub places : length (s .dir) ≡ C
   pub orderly : L .Orderly N (s .dir)
   pub held : (p : ℕ) → p < length (s .dir) → P .look (s .dir) p .used ≡ true → HeldAt c (P .look (s .dir) p) p u s
   pub free : (n : ℕ) → n < N → Free P (s .dir) n → Same n u s

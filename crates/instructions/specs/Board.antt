@@ -39,5 +39,5 @@ documentBoard =
       opcodes = opcodeTable;
       placement = direct;
       slotsFine = λ C. leb 1 C && leb C 64;
-      directoryFine = λ N dir. allFine N (length dir) 0 dir
+      directoryFine = λ N dir. allFine N (length dir) 0 dir;
     }

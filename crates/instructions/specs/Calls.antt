@@ -110,7 +110,7 @@ module _ {S : Type 0} (B : Board) (c : Cipher) (H : House S) where
         steps = if going (rest .steps) (i + 1);
         buffer = [];
         machine = if going (rest .machine) next;
-        log = s .log ++ (if going (rest .log) [])
+        log = s .log ++ (if going (rest .log) []);
       }
 
   -- a call that is one request, after which the record is as given; the buffer gets what the reply makes of it

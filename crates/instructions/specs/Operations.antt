@@ -100,11 +100,11 @@ executed B c key r w loaded =
       pid = if (eqb op 15) (Ra r w % 2 ^ 32) (r .pid);
       cid = if (eqb op 15) (Rb r w % 2 ^ 16) (r .cid);
       cem =
-        record {
-          mode = nextMode r w;
-          lock = eqb op 33 || r .cem .lock;
-          srh = if (eqb op 36) (r .cem .buffer) (r .cem .srh);
-          buffer = nextBuffer c key r w;
-          saved = r .cem .saved
-        }
+          record {
+            mode = nextMode r w;
+            lock = eqb op 33 || r .cem .lock;
+            srh = if (eqb op 36) (r .cem .buffer) (r .cem .srh);
+            buffer = nextBuffer c key r w;
+            saved = r .cem .saved;
+          };
     }

@@ -55,5 +55,5 @@ reset B srh =
       cause = 0;
       pid = 0;
       cid = 0;
-      cem = record { mode = 0; lock = false; srh = srh; buffer = zeros (32 / B .wordBytes); saved = record { hash = zeros 16; address = 0; pid = 0; cid = 0 } }
+      cem = record { mode = 0; lock = false; srh = srh; buffer = zeros (32 / B .wordBytes); saved = record { hash = zeros 16; address = 0; pid = 0; cid = 0 } };
     }

@@ -55,7 +55,7 @@ finished B c key M r got data′ =
     let fault = if (eqb known 0) (lateFault B c key r w (data′ .failed)) known in
     record {
       fault = fault;
-      processor = if (eqb fault 0) (if (eqb (opcode w) 16) (returned B c key r) (executed B c key r w (data′ .number))) (entered B c key fault r)
+      processor = if (eqb fault 0) (if (eqb (opcode w) 16) (returned B c key r) (executed B c key r w (data′ .number))) (entered B c key fault r);
     }
 
 -- one instruction as a program of requests, under a DRK, on a memory of M bytes

@@ -45,13 +45,13 @@ suspended B c key r =
       pid = r .pid;
       cid = r .cid;
       cem =
-        record {
-          mode = if on 2 (r .cem .mode);
-          lock = r .cem .lock;
-          srh = r .cem .srh;
-          buffer = r .cem .buffer;
-          saved = if on (record { hash = hash; address = r .pc; pid = r .pid; cid = r .cid }) (r .cem .saved)
-        }
+          record {
+            mode = if on 2 (r .cem .mode);
+            lock = r .cem .lock;
+            srh = r .cem .srh;
+            buffer = r .cem .buffer;
+            saved = if on (record { hash = hash; address = r .pc; pid = r .pid; cid = r .cid }) (r .cem .saved);
+          };
     }
 
 -- a fault or an interrupt: an active thread is suspended; then EPC = pc, cause = number, pc = 64
@@ -86,11 +86,11 @@ returned B c key r =
       pid = r .pid;
       cid = r .cid;
       cem =
-        record {
-          mode = if on 1 (r .cem .mode);
-          lock = r .cem .lock;
-          srh = r .cem .srh;
-          buffer = r .cem .buffer;
-          saved = r .cem .saved
-        }
+          record {
+            mode = if on 1 (r .cem .mode);
+            lock = r .cem .lock;
+            srh = r .cem .srh;
+            buffer = r .cem .buffer;
+            saved = r .cem .saved;
+          };
     }
