@@ -19,7 +19,7 @@ use Rattle.model.specs.Lines.{lineAt, putLine, macAt, putMac}
 use Rattle.model.specs.Placement.{Entry, Placement}
 use Rattle.model.specs.PlacementLaws.{PlacementLaws}
 use Rattle.model.specs.Uncached.{Uncached}
-use Rattle.model.specs.Cached.{Cached, thenDo, evictPlace, evictFrom, evictAll, losePlace, loseFrom, loseAll}
+use Rattle.model.specs.Cached.{Cached, thenDo, evictPlace, evictFrom, evictAll, losePlace, loseFrom, loseAll, asItStands}
 use Rattle.agree.specs.Agree.{Held, HeldAt, Free, Same, Agree, AllEmpty}
 use Rattle.agree.proofs.Evict.{evict-agrees, evict-length, evict-here, evict-other}
 
@@ -76,12 +76,9 @@ module _ (c : Cipher) (CL : CipherLaws c) (P : Placement) (L : PlacementLaws P) 
   pub proper : (u : Uncached) (s : Cached) → Agree c P L N C u s → Proper s
   proper u s A = record { key = A .key; mem = A .mem; macs = A .macs; cache = A .cache; places = A .places; orderly = A .orderly }
 
-  -- the manual's memory that has what memory and MAC area have
-  abbrev pub asItStands : Cached → Uncached
-  asItStands s = record { key = s .key; mem = s .mem; macs = s .macs }
-
   -- with every place empty, memory and MAC area as they stand agree: at the start, and after a cut
   pub fresh-agrees : (s : Cached) → Proper s → AllEmpty P (s .dir) → Agree c P L N C (asItStands s) s
+  unfolding asItStands
   fresh-agrees s r E =
       record {
         keys = refl;
@@ -111,6 +108,7 @@ module _ (c : Cipher) (CL : CipherLaws c) (P : Placement) (L : PlacementLaws P) 
 
   -- with every place empty, another key may be taken
   pub rekey-agrees : (u : Uncached) (s : Cached) (k : List ℕ) → Agree c P L N C u s → AllEmpty P (s .dir) → Sized 16 k → Agree c P L N C (record { key = k; mem = u .mem; macs = u .macs }) (record { key = k; mem = s .mem; macs = s .macs; cache = s .cache; dir = s .dir })
+  unfolding asItStands
   rekey-agrees u s k A E z =
       rw (same-mem u s A E, same-macs u s A E)
       (fresh-agrees (record { key = k; mem = s .mem; macs = s .macs; cache = s .cache; dir = s .dir })
@@ -136,31 +134,24 @@ module _ (c : Cipher) (CL : CipherLaws c) (P : Placement) (L : PlacementLaws P) 
   unfolding losePlace evictPlace
   lose-dir s p = refl
 
-  -- the slots that are lost: what stands, and that every place is empty
-  record Lost (s t : Cached) : Type 0 where
-    keys : t .key ≡ s .key
-    mems : t .mem ≡ s .mem
-    macs : t .macs ≡ s .macs
+  -- the slots that are lost: a memory in use, with every place empty
+  record Lost (t : Cached) : Type 0 where
     rest : Proper t
     gone : AllEmpty P (t .dir)
 
-  losing : (k p : ℕ) (s : Cached) → p + k ≡ length (s .dir) → EmptyBelow p (s .dir) → Proper s → Lost s (loseFrom P k p s)
-  unfolding loseFrom losePlace
-  losing zero p s e E r = record { keys = refl; mems = refl; macs = refl; rest = r; gone = all-of-them p (s .dir) (omega arith) E }
+  losing : (k p : ℕ) (s : Cached) → p + k ≡ length (s .dir) → EmptyBelow p (s .dir) → Proper s → Lost (loseFrom P k p s)
+  unfolding loseFrom
+  losing zero p s e E r = record { rest = r; gone = all-of-them p (s .dir) (omega arith) E }
   losing (suc k) p s e E r =
       let t = losePlace P p s in
       let l : length (t .dir) ≡ length (s .dir) = rw (lose-dir s p) (evict-length c CL P L N C s p) in
-      let rec : Lost t (loseFrom P k (p + 1) t) =
       losing k (p + 1) t (rw l (omega arith))
       (one-more p (s .dir) (t .dir) E l (λ h. rw (lose-dir s p) (evict-here c CL P L N C s p h)) (λ q d. rw (lose-dir s p) (evict-other c CL P L N C s p q d)))
-      (lose-proper s p (omega arith) r) in
-      record { keys = rec .keys; mems = rec .mems; macs = rec .macs; rest = rec .rest; gone = rec .gone }
+      (lose-proper s p (omega arith) r)
 
   -- after a power cut the manual's memory is given what the cut left, and the two agree
-  pub cut-agrees : (s : Cached) → Proper s → Agree c P L N C (asItStands s) (loseAll P s)
+  pub cut-agrees : (s : Cached) → Proper s → Agree c P L N C (asItStands (loseAll P s)) (loseAll P s)
   unfolding loseAll
   cut-agrees s r =
-      let t = loseFrom P (length (s .dir)) 0 s in
-      let l : Lost s t = losing (length (s .dir)) 0 s (omega arith) (record { none = λ q a b. absurd (omega arith) }) r in
-      let e : asItStands t ≡ asItStands s = λ i. record { key = l .keys i; mem = l .mems i; macs = l .macs i } in
-      subst (λ (u : Uncached). Agree c P L N C u t) e (fresh-agrees t (l .rest) (l .gone))
+      let l = losing (length (s .dir)) 0 s (omega arith) (record { none = λ q a b. absurd (omega arith) }) r in
+      fresh-agrees (loseFrom P (length (s .dir)) 0 s) (l .rest) (l .gone)

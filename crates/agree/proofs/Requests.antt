@@ -71,13 +71,13 @@ module _ (c : Cipher) (CL : CipherLaws c) (P : Placement) (L : PlacementLaws P) 
     pub outs : h .out ≡ g .out
     pub states : Agree c P L N C (h .state) (g .state)
 
-  pub runs-alike : {Out : Type 0} (q : Prog Out) (u : Uncached) (s : Cached) → Sound N q → Agree c P L N C u s → RanAlike (perform (uncached c) q u) (perform (cached c P) q s)
+  pub runs-alike : {Out : Type 0} (left : Uncached) (q : Prog Out) (u : Uncached) (s : Cached) → Sound N q → Agree c P L N C u s → RanAlike (perform (uncached c left) q u) (perform (cached c P) q s)
   unfolding perform uncached cached
-  runs-alike (ret o) u s sound-ret A = record { outs = refl; states = A }
-  runs-alike {Out} (ask q k) u s (sound-ask f g) A =
+  runs-alike left (ret o) u s sound-ret A = record { outs = refl; states = A }
+  runs-alike {Out} left (ask q k) u s (sound-ask f g) A =
       let a = answers-alike q u s f A in
       let h = uncachedHandle c q u in
       let j = cachedHandle c P q s in
-      let r : RanAlike (perform (uncached c) (k (j .reply)) (h .state)) (perform (cached c P) (k (j .reply)) (j .state)) =
-      runs-alike (k (j .reply)) (h .state) (j .state) (g (j .reply)) (a .states) in
+      let r : RanAlike (perform (uncached c left) (k (j .reply)) (h .state)) (perform (cached c P) (k (j .reply)) (j .state)) =
+      runs-alike left (k (j .reply)) (h .state) (j .state) (g (j .reply)) (a .states) in
       rw (a .replies) (record { outs = r .outs; states = r .states })

@@ -16,7 +16,7 @@ use Rattle.instructions.specs.Board.{Board}
 use Rattle.instructions.specs.Record.{Processor, reset}
 use Rattle.instructions.specs.Suspend.{entered}
 use Rattle.instructions.specs.Step.{Stepped, instruction}
-use Rattle.instructions.specs.Refusals.{cachedFlaws, uncachedFlaws, recordFlaws, lineFlaws, bufferFlaws, runFlaws}
+use Rattle.instructions.specs.Refusals.{orElse, cachedFlaws, uncachedFlaws, recordFlaws, lineFlaws, bufferFlaws, runFlaws}
 
 -- the machine calls but the listing, with the line, the n and the buffer that each is lent
 pub data Call : Type 0 where
@@ -56,12 +56,13 @@ pub record House (S : Type 0) : Type 0 where
   pub memory : Memory S
   pub flaws : S → List (Bool × ℕ)
 
--- the machine with a cache, and the machine without one
+-- the machine with a cache
 unfoldable pub cachedHouse : Board → Cipher → House Cached
 cachedHouse B c = record { memory = cached c (B .placement); flaws = cachedFlaws B }
 
-unfoldable pub uncachedHouse : Board → Cipher → House Uncached
-uncachedHouse B c = record { memory = uncached c; flaws = uncachedFlaws }
+-- the machine without a cache; at a power cut it is given what the cut left of the machine beside it
+unfoldable pub uncachedHouse : Cipher → Uncached → House Uncached
+uncachedHouse c left = record { memory = uncached c left; flaws = uncachedFlaws }
 
 -- the buffer that a call is lent
 unfoldable pub bufferOf : Call → List ℕ
@@ -87,12 +88,32 @@ callFlaws M writeBackAll = []
 callFlaws M reboot = []
 callFlaws M powerCut = []
 
-module _ {S : Type 0} (B : Board) (c : Cipher) (H : House S) where
-  -- the lowest number that applies to the call, and 0 where none does
-  unfoldable pub refusal : Call → Machine S → ℕ
-  refusal call m =
-      firstOf (H .flaws (m .memory) ++ (recordFlaws (m .processor) ++ callFlaws (H .memory .size (m .memory)) call))
+-- the lowest number that applies to the call, and 0 where none does
+unfoldable pub refusal : {S : Type 0} → House S → Call → Machine S → ℕ
+refusal H call m =
+    orElse (firstOf (H .flaws (m .memory)))
+    (orElse (firstOf (recordFlaws (m .processor))) (firstOf (callFlaws (H .memory .size (m .memory)) call)))
 
+-- a refused call: its number, nothing done, nothing counted, the buffer and the machine as they were
+unfoldable pub refused : {S : Type 0} → ℕ → Call → Machine S → Result S
+refused n call m = record { answer = n; steps = 0; buffer = bufferOf call; machine = m; log = [] }
+
+-- a call that only changes the record, or the whole of memory at once
+unfoldable pub changed : {S : Type 0} → Processor → S → Result S
+changed r s = record { answer = 0; steps = 0; buffer = []; machine = record { processor = r; memory = s }; log = [] }
+
+-- a call that is one request, after which the record is as given; the buffer gets what the reply makes of it
+unfoldable pub asked : {S : Type 0} → House S → Request → Processor → (Reply → List ℕ) → S → Result S
+asked H q r buffer s =
+    let h = H .memory .handle q s in
+    record { answer = 0; steps = 0; buffer = buffer (h .reply); machine = record { processor = r; memory = h .state }; log = h .log }
+
+-- the bytes of a reply, or the buffer as it was lent
+unfoldable pub replied : List ℕ → Reply → List ℕ
+replied x none = x
+replied x (some line) = line
+
+module _ {S : Type 0} (B : Board) (c : Cipher) (H : House S) where
   -- one instruction on the machine
   unfoldable pub step : Machine S → Ran Stepped S
   step m = perform (H .memory) (instruction B c (H .memory .key (m .memory)) (H .memory .size (m .memory)) (m .processor)) (m .memory)
@@ -113,39 +134,20 @@ module _ {S : Type 0} (B : Board) (c : Cipher) (H : House S) where
         log = s .log ++ (if going (rest .log) []);
       }
 
-  -- a call that is one request, after which the record is as given; the buffer gets what the reply makes of it
-  unfoldable pub asked : Request → Processor → (Reply → List ℕ) → Machine S → Result S
-  asked q r buffer m =
-      let h = H .memory .handle q (m .memory) in
-      record { answer = 0; steps = 0; buffer = buffer (h .reply); machine = record { processor = r; memory = h .state }; log = h .log }
-
-  -- a call that only changes the record
-  unfoldable pub changed : Processor → S → Result S
-  changed r s = record { answer = 0; steps = 0; buffer = []; machine = record { processor = r; memory = s }; log = [] }
-
-  -- the bytes of a reply, or the buffer as it was lent
-  unfoldable pub replied : List ℕ → Reply → List ℕ
-  replied x none = x
-  replied x (some line) = line
-
   -- what a call does that is not refused
   unfoldable pub accepted : Call → Machine S → Result S
   accepted (run n) m = runFrom n 0 m
   accepted interrupt m = changed (entered B c (H .memory .key (m .memory)) 32 (m .processor)) (m .memory)
-  accepted (busRead n x) m = asked (Request.busRead n) (m .processor) (replied x) m
-  accepted (busWrite n x) m = asked (Request.busWrite n x) (m .processor) (λ reply. x) m
-  accepted (busMac n x) m = asked (Request.busMac n x) (m .processor) (λ reply. x) m
-  accepted (evictLine n) m = asked (evict n) (m .processor) (λ reply. []) m
-  accepted writeBackAll m = asked writeBack (m .processor) (λ reply. []) m
-  accepted reboot m = asked writeBack (reset B (m .processor .cem .srh)) (λ reply. []) m
+  accepted (busRead n x) m = asked H (Request.busRead n) (m .processor) (replied x) (m .memory)
+  accepted (busWrite n x) m = asked H (Request.busWrite n x) (m .processor) (λ reply. x) (m .memory)
+  accepted (busMac n x) m = asked H (Request.busMac n x) (m .processor) (λ reply. x) (m .memory)
+  accepted (evictLine n) m = asked H (evict n) (m .processor) (λ reply. []) (m .memory)
+  accepted writeBackAll m = asked H writeBack (m .processor) (λ reply. []) (m .memory)
+  accepted reboot m = asked H writeBack (reset B (m .processor .cem .srh)) (λ reply. []) (m .memory)
   accepted powerCut m = changed (reset B (m .processor .cem .srh)) (H .memory .cut (m .memory))
-
-  -- a refused call: its number, nothing done, nothing counted, the buffer and the machine as they were
-  unfoldable pub refused : ℕ → Call → Machine S → Result S
-  refused n call m = record { answer = n; steps = 0; buffer = bufferOf call; machine = m; log = [] }
 
   -- a machine call of the host
   unfoldable pub called : Call → Machine S → Result S
   called call m =
-      let n = refusal call m in
+      let n = refusal H call m in
       if (eqb n 0) (accepted call m) (refused n call m)

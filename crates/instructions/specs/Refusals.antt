@@ -4,11 +4,16 @@ use mathlib.Core.Bool.{Bool, not, _&&_, _||_}
 use mathlib.Core.List.{List, [], _∷_, _++_}
 use lib.ListN.{length}
 use lib.Dec.{eqb, leb, ltb}
+use Rattle.lists.specs.If.{if}
 use Rattle.model.specs.Uncached.{Uncached}
 use Rattle.model.specs.Cached.{Cached}
 use Rattle.instructions.specs.Rules.{firstOf}
 use Rattle.instructions.specs.Board.{Board}
 use Rattle.instructions.specs.Record.{Processor, reg}
+
+-- the first number unless it is 0, and then the second
+unfoldable pub orElse : ℕ → ℕ → ℕ
+orElse a b = if (eqb a 0) b a
 
 -- M is a multiple of 64, 128 ≤ M ≤ 65,536
 unfoldable pub sizeFine : ℕ → Bool

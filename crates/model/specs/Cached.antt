@@ -12,6 +12,7 @@ use Rattle.model.specs.Cipher.{Cipher}
 use Rattle.model.specs.Lines.{lineAt, putLine, macAt, putMac, seen, stored, signed, passes}
 use Rattle.model.specs.Log.{Note}
 use Rattle.model.specs.Placement.{Entry, Placement, holding}
+use Rattle.model.specs.Uncached.{Uncached}
 use Rattle.model.specs.Requests.{Request, access, evict, busRead, busWrite, busMac, writeBack, rekey, Handled, Memory}
 
 -- the DRK, the bytes of memory, the MAC area, the cache's data bytes (64 a slot) and its directory (a number a slot)
@@ -189,3 +190,7 @@ loseAll P s = loseFrom P (length (s .dir)) 0 s
 -- the cached memory
 unfoldable pub cached : Cipher → Placement → Memory Cached
 cached c P = record { key = λ s. s .key; size = λ s. length (s .mem); handle = cachedHandle c P; cut = loseAll P }
+
+-- memory and MAC area as they stand, without what the cache holds
+unfoldable pub asItStands : Cached → Uncached
+asItStands s = record { key = s .key; mem = s .mem; macs = s .macs }

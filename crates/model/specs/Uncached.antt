@@ -42,6 +42,6 @@ uncachedHandle c (busMac n x) s =
 uncachedHandle c writeBack s = record { reply = some []; state = s; log = [] }
 uncachedHandle c (rekey k) s = record { reply = some []; state = record { key = k; mem = s .mem; macs = s .macs }; log = [] }
 
--- the manual's memory
-unfoldable pub uncached : Cipher → Memory Uncached
-uncached c = record { key = λ s. s .key; size = λ s. length (s .mem); handle = uncachedHandle c; cut = λ s. s }
+-- the manual's memory; at a power cut it is given what the cut left of the machine beside it
+unfoldable pub uncached : Cipher → Uncached → Memory Uncached
+uncached c left = record { key = λ s. s .key; size = λ s. length (s .mem); handle = uncachedHandle c; cut = λ s. left }

@@ -1,0 +1,176 @@
+-- Every call of the host is answered alike by the two machines, and leaves machines that agree.
+use Prim.Native.Nat.{ℕ, zero, suc, _+_, _*_, _/_, _<_, _≤_}
+use native.Mathlib.Omega.{arith}
+use mathlib.Core.Path.{_≡_, refl, sym, ap, ap₂, _∙_, subst}
+use mathlib.Core.Bool.{Bool, true, false, not, _&&_}
+use mathlib.Core.List.{List, [], _∷_, _++_}
+use mathlib.Core.Option.{none, some}
+use lib.ListN.{length}
+use lib.Dec.{eqb, leb}
+use borrow.Author.Tests.{eqb-true, eqb-false, eq-eqb, leb-false, not-false}
+use Rattle.lists.specs.If.{if}
+use Rattle.lists.specs.Bytes.{Bytes}
+use Rattle.lists.proofs.Cases.{by-test}
+use Rattle.model.specs.Cipher.{Cipher}
+use Rattle.model.specs.CipherLaws.{Sized, CipherLaws}
+use Rattle.model.specs.Log.{Note}
+use Rattle.model.specs.Requests.{Request, evict, writeBack, Reply, Prog, Memory, Ran, perform}
+use Rattle.model.specs.Uncached.{Uncached, uncachedHandle, uncached}
+use Rattle.model.specs.Cached.{Cached, cachedHandle, cached, loseAll, asItStands}
+use Rattle.agree.specs.Agree.{Agree}
+use Rattle.agree.specs.Sound.{Fair, fair-evict, fair-busRead, fair-busWrite, fair-busMac, fair-writeBack}
+use Rattle.agree.proofs.Requests.{Alike, answers-alike, RanAlike, runs-alike}
+use Rattle.agree.proofs.Everything.{proper, cut-agrees}
+use Rattle.instructions.specs.Rules.{firstOf}
+use Rattle.instructions.specs.Board.{Board}
+use Rattle.instructions.specs.Record.{Processor, reset}
+use Rattle.instructions.specs.Suspend.{entered}
+use Rattle.instructions.specs.Step.{Stepped, instruction}
+use Rattle.instructions.specs.Refusals.{orElse, memoryFlaws, cacheFlaws, cachedFlaws, uncachedFlaws, recordFlaws, lineFlaws, bufferFlaws}
+use Rattle.instructions.specs.Calls.{Call, run, interrupt, busRead, busWrite, busMac, evictLine, writeBackAll, reboot, powerCut, bufferOf, callFlaws, Machine, Result, House, cachedHouse, uncachedHouse, refusal, step, runFrom, asked, changed, replied, accepted, refused, called}
+use Rattle.demand3.specs.BoardLaws.{BoardLaws}
+use Rattle.demand3.specs.Statement.{withCache, withoutCache}
+use Rattle.demand3.proofs.Sound.{none-first, instruction-sound}
+
+-- neither of two numbers, of which the second counts where the first is 0
+or-else-zero : (a b : ℕ) → orElse a b ≡ 0 → b ≡ 0
+unfolding orElse
+or-else-zero a b z = by-test (eqb a 0) (λ h. rw h at z) (λ h. absurd (eqb-false a 0 h (rw h at z)))
+
+module _ (B : Board) (BL : BoardLaws B) (c : Cipher) (CL : CipherLaws c) (N C : ℕ) (slots : B .slotsFine C ≡ true) where
+  -- two machines that agree: the same record, and memories that agree
+  pub record Agreeing (u : Machine Uncached) (s : Machine Cached) : Type 0 where
+    pub processors : u .processor ≡ s .processor
+    pub memories : Agree c (B .placement) (BL .placement) N C (u .memory) (s .memory)
+
+  -- two results that are alike, of machines that agree
+  pub record ResultsAlike (u : Result Uncached) (s : Result Cached) : Type 0 where
+    pub answers : u .answer ≡ s .answer
+    pub steps : u .steps ≡ s .steps
+    pub buffers : u .buffer ≡ s .buffer
+    pub machines : Agreeing (u .machine) (s .machine)
+
+  -- one step
+  step-alike : (left : Uncached) (u : Machine Uncached) (s : Machine Cached) → Agreeing u s → RanAlike c CL (B .placement) (BL .placement) N C (step B c (uncachedHouse c left) u) (step B c (cachedHouse B c) s)
+  unfolding step uncachedHouse cachedHouse uncached cached
+  step-alike left u s G =
+      let A = G .memories in
+      let sizes : length (s .memory .mem) ≡ length (u .memory .mem) = A .mem .size ∙ sym (A .plainMem .size) in
+      let one = instruction B c (s .memory .key) (length (s .memory .mem)) (s .processor) in
+      let other = instruction B c (u .memory .key) (length (u .memory .mem)) (u .processor) in
+      let e : one ≡ other = λ i. instruction B c (sym (A .keys) i) (sizes i) (sym (G .processors) i) in
+      subst (λ (q : Prog Stepped). RanAlike c CL (B .placement) (BL .placement) N C (perform (uncached c left) q (u .memory)) (perform (cached c (B .placement)) one (s .memory))) e
+      (runs-alike c CL (B .placement) (BL .placement) N C left one (u .memory) (s .memory)
+      (instruction-sound B (BL .words) (BL .wholeWords) N (length (s .memory .mem)) (A .mem .size) (s .processor) c (s .memory .key)) A)
+
+  -- a run that goes on with what its rest gives, or stops behind the step
+  goes-on : (going : Bool) (f i : ℕ) (ru : Result Uncached) (rs : Result Cached) (mu : Machine Uncached) (ms : Machine Cached) (lu ls : List Note) → ResultsAlike ru rs → Agreeing mu ms → ResultsAlike (record { answer = if going (ru .answer) f; steps = if going (ru .steps) i; buffer = []; machine = if going (ru .machine) mu; log = lu }) (record { answer = if going (rs .answer) f; steps = if going (rs .steps) i; buffer = []; machine = if going (rs .machine) ms; log = ls })
+  goes-on true f i ru rs mu ms lu ls R G = record { answers = R .answers; steps = R .steps; buffers = refl; machines = R .machines }
+  goes-on false f i ru rs mu ms lu ls R G = record { answers = refl; steps = refl; buffers = refl; machines = G }
+
+  run-alike : (left : Uncached) (k i : ℕ) (u : Machine Uncached) (s : Machine Cached) → Agreeing u s → ResultsAlike (runFrom B c (uncachedHouse c left) k i u) (runFrom B c (cachedHouse B c) k i s)
+  unfolding runFrom
+  run-alike left zero i u s G = record { answers = refl; steps = refl; buffers = refl; machines = G }
+  run-alike left (suc k) i u s G =
+      let a = step B c (uncachedHouse c left) u in
+      let b = step B c (cachedHouse B c) s in
+      let S : RanAlike c CL (B .placement) (BL .placement) N C a b = step-alike left u s G in
+      let H : Agreeing (record { processor = b .out .processor; memory = a .state }) (record { processor = b .out .processor; memory = b .state }) =
+      record { processors = refl; memories = S .states } in
+      rw (S .outs)
+      (goes-on (eqb (b .out .fault) 0) (b .out .fault) (i + 1)
+      (runFrom B c (uncachedHouse c left) k (i + 1) (record { processor = b .out .processor; memory = a .state }))
+      (runFrom B c (cachedHouse B c) k (i + 1) (record { processor = b .out .processor; memory = b .state }))
+      (record { processor = b .out .processor; memory = a .state }) (record { processor = b .out .processor; memory = b .state }) _ _
+      (run-alike left k (i + 1) (record { processor = b .out .processor; memory = a .state }) (record { processor = b .out .processor; memory = b .state }) H) H)
+
+  -- a call that is one fair request
+  asked-alike : (left : Uncached) (q : Request) (ru rs : Processor) (f : Reply → List ℕ) (u : Uncached) (s : Cached) → Fair N q → ru ≡ rs → Agree c (B .placement) (BL .placement) N C u s → ResultsAlike (asked (uncachedHouse c left) q ru f u) (asked (cachedHouse B c) q rs f s)
+  unfolding asked uncachedHouse cachedHouse uncached cached
+  asked-alike left q ru rs f u s h e A =
+      let R : Alike c CL (B .placement) (BL .placement) N C (uncachedHandle c q u) (cachedHandle c (B .placement) q s) =
+      answers-alike c CL (B .placement) (BL .placement) N C q u s h A in
+      record { answers = refl; steps = refl; buffers = ap f (R .replies); machines = record { processors = e; memories = R .states } }
+
+  -- a call that only changes the record
+  changed-alike : (ru rs : Processor) (u : Uncached) (s : Cached) → ru ≡ rs → Agree c (B .placement) (BL .placement) N C u s → ResultsAlike (changed ru u) (changed rs s)
+  unfolding changed
+  changed-alike ru rs u s e A = record { answers = refl; steps = refl; buffers = refl; machines = record { processors = e; memories = A } }
+
+  -- a line that is not refused is a line of memory, and a buffer that is not refused has its size
+  line-in : (M n : ℕ) (rest : List (Bool × ℕ)) → M ≡ N * 64 → firstOf (lineFlaws M n ++ rest) ≡ 0 → (n < N) × (firstOf rest ≡ 0)
+  unfolding lineFlaws
+  line-in M n rest e z =
+      let a = none-first (leb (M / 64) n) 106 (firstOf rest) (λ q. omega arith) z in
+      let l : n < M / 64 = leb-false (M / 64) n (a .0) in
+      let h : n < N = omega arith in
+      (h, a .1)
+
+  buffer-sized : (k : ℕ) (x : List ℕ) → firstOf (bufferFlaws k x) ≡ 0 → Bytes x → Sized k x
+  unfolding bufferFlaws
+  buffer-sized k x z b =
+      let a = none-first (not (eqb (length x) k)) 107 0 (λ q. omega arith) z in
+      record { size = eqb-true (length x) k (not-false (eqb (length x) k) (a .0)); bytes = b }
+
+  -- a call that is not refused
+  accepted-alike : (call : Call) (u : Machine Uncached) (s : Machine Cached) → Bytes (bufferOf call) → firstOf (callFlaws (length (s .memory .mem)) call) ≡ 0 → Agreeing u s
+      → ResultsAlike (accepted B c (uncachedHouse c (asItStands (accepted B c (cachedHouse B c) call s .machine .memory))) call u) (accepted B c (cachedHouse B c) call s)
+  unfolding accepted callFlaws bufferOf uncachedHouse cachedHouse uncached cached changed lineFlaws
+  accepted-alike (run n) u s b z G = run-alike _ n 0 u s G
+  accepted-alike interrupt u s b z G =
+      changed-alike (entered B c (u .memory .key) 32 (u .processor)) (entered B c (s .memory .key) 32 (s .processor)) (u .memory) (s .memory)
+      (ap₂ (λ (k : List ℕ) (r : Processor). entered B c k 32 r) (G .memories .keys) (G .processors)) (G .memories)
+  accepted-alike (busRead n x) u s b z G =
+      asked-alike _ (Request.busRead n) (u .processor) (s .processor) (replied x) (u .memory) (s .memory)
+      (fair-busRead (line-in (length (s .memory .mem)) n (bufferFlaws 64 x) (G .memories .mem .size) z .0)) (G .processors) (G .memories)
+  accepted-alike (busWrite n x) u s b z G =
+      let h = line-in (length (s .memory .mem)) n (bufferFlaws 64 x) (G .memories .mem .size) z in
+      asked-alike _ (Request.busWrite n x) (u .processor) (s .processor) (λ reply. x) (u .memory) (s .memory) (fair-busWrite (h .0) (buffer-sized 64 x (h .1) b)) (G .processors) (G .memories)
+  accepted-alike (busMac n x) u s b z G =
+      let h = line-in (length (s .memory .mem)) n (bufferFlaws 16 x) (G .memories .mem .size) z in
+      asked-alike _ (Request.busMac n x) (u .processor) (s .processor) (λ reply. x) (u .memory) (s .memory) (fair-busMac (h .0) (buffer-sized 16 x (h .1) b)) (G .processors) (G .memories)
+  accepted-alike (evictLine n) u s b z G =
+      asked-alike _ (evict n) (u .processor) (s .processor) (λ reply. []) (u .memory) (s .memory)
+      (fair-evict (line-in (length (s .memory .mem)) n [] (G .memories .mem .size) z .0)) (G .processors) (G .memories)
+  accepted-alike writeBackAll u s b z G =
+      asked-alike _ writeBack (u .processor) (s .processor) (λ reply. []) (u .memory) (s .memory) fair-writeBack (G .processors) (G .memories)
+  accepted-alike reboot u s b z G =
+      asked-alike _ writeBack (reset B (u .processor .cem .srh)) (reset B (s .processor .cem .srh)) (λ reply. []) (u .memory) (s .memory) fair-writeBack
+      (ap (λ (r : Processor). reset B (r .cem .srh)) (G .processors)) (G .memories)
+  accepted-alike powerCut u s b z G =
+      changed-alike (reset B (u .processor .cem .srh)) (reset B (s .processor .cem .srh)) (asItStands (loseAll (B .placement) (s .memory))) (loseAll (B .placement) (s .memory))
+      (ap (λ (r : Processor). reset B (r .cem .srh)) (G .processors))
+      (cut-agrees c CL (B .placement) (BL .placement) N C (s .memory) (proper c CL (B .placement) (BL .placement) N C (u .memory) (s .memory) (G .memories)))
+
+  -- the refusals for what is lent: neither 103 nor 104 applies to a memory that agrees
+  flaws-alike : (u : Uncached) (s : Cached) → Agree c (B .placement) (BL .placement) N C u s → firstOf (uncachedFlaws u) ≡ firstOf (cachedFlaws B s)
+  unfolding uncachedFlaws cachedFlaws memoryFlaws cacheFlaws
+  flaws-alike u s A =
+      let n : length (s .mem) / 64 ≡ N = omega (arith, A .mem .size) in
+      rw (A .plainMem .size, A .plainMacs, A .mem .size, A .macs, A .cache, eq-eqb (length (s .dir) * 64) (length (s .dir) * 64) refl, A .places, slots, ← A .mem .size, n, BL .passes N (s .dir) (A .orderly))
+
+  refusal-alike : (left : Uncached) (call : Call) (u : Machine Uncached) (s : Machine Cached) → Agreeing u s → refusal (uncachedHouse c left) call u ≡ refusal (cachedHouse B c) call s
+  unfolding refusal uncachedHouse cachedHouse uncached cached
+  refusal-alike left call u s G =
+      let sizes : length (u .memory .mem) ≡ length (s .memory .mem) = G .memories .plainMem .size ∙ sym (G .memories .mem .size) in
+      λ i. orElse (flaws-alike (u .memory) (s .memory) (G .memories) i) (orElse (firstOf (recordFlaws (G .processors i))) (firstOf (callFlaws (sizes i) call)))
+
+  -- a call that is not refused is not refused for its line, buffer or n
+  none-refused : (call : Call) (s : Machine Cached) → refusal (cachedHouse B c) call s ≡ 0 → firstOf (callFlaws (length (s .memory .mem)) call) ≡ 0
+  unfolding refusal cachedHouse cached
+  none-refused call s z =
+      or-else-zero (firstOf (recordFlaws (s .processor))) (firstOf (callFlaws (length (s .memory .mem)) call))
+      (or-else-zero (firstOf (cachedFlaws B (s .memory))) (orElse (firstOf (recordFlaws (s .processor))) (firstOf (callFlaws (length (s .memory .mem)) call))) z)
+
+  -- every call is answered alike
+  pub called-alike : (call : Call) (u : Machine Uncached) (s : Machine Cached) → Bytes (bufferOf call) → Agreeing u s → ResultsAlike (withoutCache B c call u (withCache B c call s)) (withCache B c call s)
+  unfolding withoutCache withCache called refused
+  called-alike call u s b G =
+      let n = refusal (cachedHouse B c) call s in
+      by-test (eqb n 0)
+      (λ h.
+      rw (h, refusal-alike (asItStands (accepted B c (cachedHouse B c) call s .machine .memory)) call u s G, h)
+      (accepted-alike call u s b (none-refused call s (eqb-true n 0 h)) G))
+      (λ h.
+      rw (h, refusal-alike (asItStands (refused n call s .machine .memory)) call u s G, h)
+      (record { answers = refl; steps = refl; buffers = refl; machines = G }))

@@ -1,0 +1,56 @@
+-- Demand 3, proved: from machines that agree, under every sequence of calls, nothing tells them apart; and which machines agree.
+use Prim.Native.Nat.{ℕ, _*_, _/_, _≤_}
+use native.Mathlib.Omega.{arith}
+use mathlib.Core.Path.{_≡_, refl, sym, ap, _∙_, subst}
+use mathlib.Core.Bool.{Bool, true, false, not, _&&_}
+use mathlib.Core.List.{List, [], _∷_}
+use lib.ListN.{length}
+use lib.Dec.{eqb, leb}
+use borrow.Author.Tests.{eqb-true, leb-true, not-false}
+use Rattle.lists.specs.Bytes.{Bytes}
+use Rattle.lists.proofs.Cases.{both-hold}
+use Rattle.model.specs.Cipher.{Cipher}
+use Rattle.model.specs.CipherLaws.{Sized, CipherLaws}
+use Rattle.model.specs.Uncached.{Uncached}
+use Rattle.model.specs.Cached.{Cached, evictAll, asItStands}
+use Rattle.agree.specs.Agree.{Agree, AllEmpty}
+use Rattle.agree.proofs.Everything.{all-agrees, all-empties, same-mem, same-macs, fresh-agrees}
+use Rattle.instructions.specs.Rules.{firstOf}
+use Rattle.instructions.specs.Board.{Board}
+use Rattle.instructions.specs.Record.{Processor}
+use Rattle.instructions.specs.Refusals.{sizeFine, memoryFlaws, cacheFlaws, cachedFlaws}
+use Rattle.instructions.specs.Calls.{Call, Machine, Result, bufferOf}
+use Rattle.demand3.specs.BoardLaws.{BoardLaws}
+use Rattle.demand3.specs.Statement.{writtenBack, withCache, withoutCache, SameOutside, AlwaysSame, ended, next, LentBytes, no-more, bytes-then, Startable}
+use Rattle.demand3.proofs.Sound.{none-first}
+use Rattle.demand3.proofs.Calls.{Agreeing, ResultsAlike, called-alike}
+
+module _ (B : Board) (BL : BoardLaws B) (c : Cipher) (CL : CipherLaws c) (N C : ℕ) (slots : B .slotsFine C ≡ true) where
+  -- memories that agree are one once everything is written back
+  one-memory : (u : Uncached) (s : Cached) → Agree c (B .placement) (BL .placement) N C u s → u ≡ writtenBack B c s
+  unfolding writtenBack asItStands
+  one-memory u s A =
+      let t = evictAll c (B .placement) s .state in
+      let D : Agree c (B .placement) (BL .placement) N C u t = all-agrees c CL (B .placement) (BL .placement) N C u s A in
+      let E : AllEmpty (B .placement) (t .dir) = all-empties c CL (B .placement) (BL .placement) N C s in
+      let m = same-mem c CL (B .placement) (BL .placement) N C u t D E in
+      let a = same-macs c CL (B .placement) (BL .placement) N C u t D E in
+      λ i. record { key = D .keys i; mem = m i; macs = a i }
+
+  outside : (u : Result Uncached) (s : Result Cached) → ResultsAlike B BL c CL N C slots u s → SameOutside B c u s
+  outside u s R =
+      record {
+        answers = R .answers;
+        steps = R .steps;
+        buffers = R .buffers;
+        processors = R .machines .processors;
+        memories = one-memory (u .machine .memory) (s .machine .memory) (R .machines .memories);
+      }
+
+  -- from any machines that agree
+  pub always-same : (calls : List Call) (u : Machine Uncached) (s : Machine Cached) → LentBytes calls → Agreeing B BL c CL N C slots u s → AlwaysSame B c calls u s
+  always-same [] u s no-more G = ended
+  always-same (call ∷ calls) u s (bytes-then b bs) G =
+      let R = called-alike B BL c CL N C slots call u s b G in
+      next (outside (withoutCache B c call u (withCache B c call s)) (withCache B c call s) R)
+      (always-same calls (withoutCache B c call u (withCache B c call s) .machine) (withCache B c call s .machine) bs (R .machines))

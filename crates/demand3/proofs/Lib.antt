@@ -1,0 +1,3 @@
+pub mod Sound
+pub mod Calls
+pub mod Demand3
