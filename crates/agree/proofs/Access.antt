@@ -21,9 +21,12 @@ use Rattle.model.specs.Requests.{access}
 use Rattle.model.specs.Uncached.{Uncached, uncachedHandle}
 use Rattle.model.specs.Cached.{Cached, serves, hitPlace, evictPlace, fillPlace, thenDo, readyPlace, writePlace, accessPlace, cachedHandle}
 use Rattle.model.proofs.LineLaws.{line-sized, mac-length, seen-sized, stored-sized, signed-length, seen-stored, passes-signed, sameTag-true}
+use Rattle.keeps.specs.Good.{Good}
+use Rattle.keeps.proofs.Evict.{evict-here}
+use Rattle.keeps.proofs.Access.{Placed, chosen-placed, evict-placed, hit-placed, write-good}
 use Rattle.agree.specs.Agree.{Held, HeldAt, Free, Same, Agree}
 use Rattle.agree.proofs.Update.{one-place, update-agrees}
-use Rattle.agree.proofs.Evict.{body-sized, evict-agrees, evict-length, evict-here, evict-mine, evict-frees}
+use Rattle.agree.proofs.Evict.{body-sized, evict-agrees, evict-frees}
 use Rattle.agree.proofs.Fill.{Ready, fill-ready}
 
 -- an entry that serves holds the line under the tag
@@ -47,19 +50,16 @@ signed-again c secureData key n l k m h d e = refl
 
 module _ (c : Cipher) (CL : CipherLaws c) (P : Placement) (L : PlacementLaws P) (N C : ℕ) where
   -- using a place keeps the agreement
-  touch-agrees : (u : Uncached) (s : Cached) (p : ℕ) → Agree c P L N C u s → p < length (s .dir) → Agree c P L N C u (hitPlace P p s .state)
+  touch-agrees : (u : Uncached) (s : Cached) (p : ℕ) → Agree c P L N C u s → Good P L N C (hitPlace P p s .state) → Agree c P L N C u (hitPlace P p s .state)
   unfolding hitPlace
-  touch-agrees u s p A hp =
+  touch-agrees u s p A g =
       record {
         keys = A .keys;
         key = A .key;
         plainMem = A .plainMem;
         plainMacs = A .plainMacs;
-        mem = A .mem;
-        macs = A .macs;
-        cache = rw (L .touch-length (s .dir) p) (A .cache);
-        places = L .touch-length (s .dir) p ∙ A .places;
-        orderly = L .touch-orderly (s .dir) p (A .orderly) hp;
+        bytes = A .bytes;
+        good = g;
         held = λ q hq w. rw (L .touch-look (s .dir) p q) (A .held q (rw (L .touch-length (s .dir) p) at hq) (rw (L .touch-look (s .dir) p q) at w));
         free =
             λ n hn f.
@@ -69,38 +69,36 @@ module _ (c : Cipher) (CL : CipherLaws c) (P : Placement) (L : PlacementLaws P) 
       }
 
   -- a slot that serves is ready
-  hit-ready : (u : Uncached) (s : Cached) (tag : Tag) (n p : ℕ) → Agree c P L N C u s → p < length (s .dir) → L .Mine N (s .dir) n p → serves (P .look (s .dir) p) tag n ≡ true → Ready c CL P L N C u tag n p true (hitPlace P p s .state)
+  hit-ready : (u : Uncached) (s : Cached) (tag : Tag) (n p : ℕ) → Agree c P L N C u s → p < length (s .dir) → serves (P .look (s .dir) p) tag n ≡ true → Placed c CL P L N C n p (hitPlace P p s .state) → Ready c CL P L N C u tag n p true (hitPlace P p s .state)
   unfolding hitPlace holding
-  hit-ready u s tag n p A hp m h =
+  hit-ready u s tag n p A hp h Q =
       let e : P .look (s .dir) p ≡ holding n tag (P .look (s .dir) p .dirty) = serving (P .look (s .dir) p) tag n h in
       let w : P .look (s .dir) p .used ≡ true = ap (λ (x : Entry). x .used) e in
       let l : P .look (s .dir) p .line ≡ n = ap (λ (x : Entry). x .line) e in
       let t : P .look (s .dir) p .tag ≡ tag = ap (λ (x : Entry). x .tag) e in
       record {
-        agrees = touch-agrees u s p A hp;
-        place = rw (L .touch-length (s .dir) p) hp;
+        agrees = touch-agrees u s p A (Q .good);
+        placed = Q;
         told = rw (A .keys, ← l, ← t) (sym (A .held p hp w .checked));
         entry = λ x. (P .look (s .dir) p .dirty, L .touch-look (s .dir) p p ∙ e);
-        mine = λ x. L .touch-mine (s .dir) n p p (A .orderly) hp m;
       }
 
   -- a line is made ready at the place chosen for it
   pub ready : (u : Uncached) (s : Cached) (tag : Tag) (n p : ℕ) → Agree c P L N C u s → n < N → P .choose (s .dir) n ≡ p → Ready c CL P L N C u tag n p (readyPlace c P tag n p s .ok) (readyPlace c P tag n p s .state)
   unfolding readyPlace thenDo hitPlace
   ready u s tag n p A hn e =
-      let hp : p < length (s .dir) = subst (λ (r : ℕ). r < length (s .dir)) e (L .choose-place (s .dir) n (A .orderly) hn) in
-      let m : L .Mine N (s .dir) n p = subst (λ (r : ℕ). L .Mine N (s .dir) n r) e (L .choose-mine (s .dir) n (A .orderly) hn) in
+      let Q = chosen-placed c CL P L N C s n p (A .good) hn e in
+      let hp = Q .place in
       by-test (serves (P .look (s .dir) p) tag n)
-      (λ h. rw h (hit-ready u s tag n p A hp m h))
+      (λ h. rw h (hit-ready u s tag n p A hp h (hit-placed c CL P L N C s n p Q)))
       (λ h.
       rw h
-      (fill-ready c CL P L N C u (evictPlace c P p s .state) tag n p (evict-agrees c CL P L N C u s p A hp)
-      (rw (evict-length c CL P L N C s p) hp) hn (evict-here c CL P L N C s p hp) (evict-frees c CL P L N C s n p (A .orderly) hp e)
-      (evict-mine c CL P L N C s p n p (A .orderly) hp m)))
+      (fill-ready c CL P L N C u (evictPlace c P p s .state) tag n p (evict-agrees c CL P L N C u s p A hp) (evict-placed c CL P L N C s n p Q) hn
+      (evict-here c CL P L N C s p hp) (evict-frees c CL P L N C s n p (A .good .orderly) hp e)))
 
   -- a change of a held line, in the slot here and in memory there
   module _ (u : Uncached) (s : Cached) (tag : Tag) (n p : ℕ) (dirty : Bool) (b : List ℕ) (A : Agree c P L N C u s) (hp : p < length (s .dir)) (hn : n < N)
-      (e : P .look (s .dir) p ≡ holding n tag dirty) (m : L .Mine N (s .dir) n p) (t : tag ≡ secureInstruction → ⊥) (z : Sized 64 b) where
+      (e : P .look (s .dir) p ≡ holding n tag dirty) (g : Good P L N C (writePlace P tag n p true (λ l. b) s)) (t : tag ≡ secureInstruction → ⊥) (z : Sized 64 b) where
     abbrev line : List ℕ
     line = stored c tag (s .key) n b
 
@@ -117,7 +115,7 @@ module _ (c : Cipher) (CL : CipherLaws c) (P : Placement) (L : PlacementLaws P) 
     line-fits = stored-sized c CL (s .key) (A .key) n tag b z
 
     mac-fits : length mac ≡ 16
-    mac-fits = signed-length c CL (s .key) (A .key) n tag line (macAt n (u .macs)) line-fits (mac-length N n (u .macs) (A .plainMacs) hn)
+    mac-fits = signed-length c CL (s .key) n tag line (macAt n (u .macs)) (line-fits .size) (mac-length N n (u .macs) (A .plainMacs) hn)
 
     used : P .look (s .dir) p .used ≡ true
     unfolding holding
@@ -135,22 +133,21 @@ module _ (c : Cipher) (CL : CipherLaws c) (P : Placement) (L : PlacementLaws P) 
         signed-again c tag (s .key) n line (stored c tag (s .key) n (lineAt p (s .cache))) (macAt n (u .macs)) (macAt n (s .macs)) dirty (h .macs)
 
     write-agrees : Agree c P L N C written changed
-    unfolding lineAt macAt putLine putMac holding
+    unfolding lineAt macAt putLine putMac holding writePlace
     write-agrees =
-        let put : P .look (P .put (s .dir) p (holding n tag true)) p ≡ holding n tag true = L .put-here (s .dir) n p tag true (A .orderly) hp hn in
-        let here : lineAt p (changed .cache) ≡ b = nth-put-here 64 (length (s .dir)) (s .cache) (A .cache) true p b hp (z .size) in
+        let put : P .look (P .put (s .dir) p (holding n tag true)) p ≡ holding n tag true = L .put-here (s .dir) n p tag true (A .good .orderly) hp hn in
+        let here : lineAt p (changed .cache) ≡ b = nth-put-here 64 (length (s .dir)) (s .cache) (A .good .cache) true p b hp (z .size) in
         let atHome : lineAt n (written .mem) ≡ line = nth-put-here 64 N (u .mem) (A .plainMem .size) true n line hn (line-fits .size) in
         let atMacs : macAt n (written .macs) ≡ mac = nth-put-here 16 N (u .macs) (A .plainMacs) true n mac hn mac-fits in
         update-agrees c P L N C n p u written s changed A hp
         (record {
           occupant = λ w. named;
-          alone = λ q a hq w i. a (one-place c P L N C (s .dir) p q (A .orderly) hp hq used w (i ∙ sym named));
+          alone = λ q a hq w i. a (one-place c P L N C (s .dir) p q (A .good .orderly) hp hq used w (i ∙ sym named));
           named = λ w. ap (λ (x : Entry). x .line) put;
           plainKey = sym (A .keys);
           key = refl;
-          places = L .put-length (s .dir) p (holding n tag true);
           looks = λ q a. L .put-other (s .dir) p q (holding n tag true) a;
-          slots = λ q a. nth-put-other 64 (length (s .dir)) (s .cache) (A .cache) true q p b hp (z .size) a;
+          slots = λ q a. nth-put-other 64 (length (s .dir)) (s .cache) (A .good .cache) true q p b hp (z .size) a;
           plainLines = λ i a. nth-put-other 64 N (u .mem) (A .plainMem .size) true i n line hn (line-fits .size) a;
           plainMacs = λ i a. nth-put-other 16 N (u .macs) (A .plainMacs) true i n mac hn mac-fits a;
           lines = λ i a. refl;
@@ -161,17 +158,15 @@ module _ (c : Cipher) (CL : CipherLaws c) (P : Placement) (L : PlacementLaws P) 
                 bytes = nth-put-bytes 64 n true line (u .mem) (line-fits .bytes) (A .plainMem .bytes);
               };
           plainMacsSize = nth-put-length 16 N (u .macs) (A .plainMacs) true n mac hn mac-fits;
-          memSize = A .mem;
-          macsSize = A .macs;
-          cacheSize = nth-put-length 64 (length (s .dir)) (s .cache) (A .cache) true p b hp (z .size);
-          orderly = L .put-orderly (s .dir) n p tag true (A .orderly) hp hn m (record { tame = λ i. absurd (t i) });
+          bytes = A .bytes;
+          good = g;
           here =
               λ w.
               rw put
               (record {
                 lines = rw here atHome;
                 macs = rw here (atMacs ∙ one-mac);
-                checked = rw (atHome, atMacs) (passes-signed c CL (s .key) (A .key) n tag line (macAt n (u .macs)) t);
+                checked = rw (atHome, atMacs) (passes-signed c CL (s .key) n tag line (macAt n (u .macs)) t);
                 viewed = rw (here, atHome) (sym (seen-stored c CL (s .key) (A .key) n tag b z));
               });
           home = λ w. absurd (false≢true (sym w ∙ ap (λ (x : Entry). x .used) put));
@@ -186,7 +181,7 @@ module _ (c : Cipher) (CL : CipherLaws c) (P : Placement) (L : PlacementLaws P) 
     viewed h =
         let e = R .entry h .1 in
         let w : P .look (t .dir) p .used ≡ true = ap (λ (x : Entry). x .used) e in
-        let H : HeldAt c (holding n tag (R .entry h .0)) p u t = rw e at (R .agrees .held p (R .place) w) in
+        let H : HeldAt c (holding n tag (R .entry h .0)) p u t = rw e at (R .agrees .held p (R .placed .place) w) in
         rw (R .agrees .keys) (sym (H .viewed))
 
     pub reply-alike : uncachedHandle c (access tag n write change) u .reply ≡ if ok (some (lineAt p (t .cache))) none
@@ -201,8 +196,10 @@ module _ (c : Cipher) (CL : CipherLaws c) (P : Placement) (L : PlacementLaws P) 
         (λ h.
         by-test write
         (λ v.
+        let b = change (lineAt p (t .cache)) in
+        let z : Sized 64 b = lines (lineAt p (t .cache)) (body-sized c CL P L N C u t p (R .agrees) (R .placed .place) (ap (λ (x : Entry). x .used) (R .entry h .1))) in
         rw (h, v, viewed h, R .agrees .keys)
-        (write-agrees u t tag n p (R .entry h .0) (change (lineAt p (t .cache))) (R .agrees) (R .place) hn (R .entry h .1) (R .mine h) (k v)
-        (lines (lineAt p (t .cache)) (body-sized c CL P L N C u t p (R .agrees) (R .place) (ap (λ (x : Entry). x .used) (R .entry h .1))))))
+        (write-agrees u t tag n p (R .entry h .0) b (R .agrees) (R .placed .place) hn (R .entry h .1)
+        (write-good c CL P L N C t tag n p true (λ l. b) hn (λ q. k v) (λ l q. z .size) (R .placed)) (k v) z))
         (λ v. rw (h, v) (R .agrees)))
         (λ h. rw h (R .agrees)))

@@ -39,7 +39,7 @@ module _ (c : Cipher) (CL : CipherLaws c) (P : Placement) (L : PlacementLaws P) 
   unfolding evictLine
   drop-agrees u s n hn A =
       by-test (holds (P .look (s .dir) (P .choose (s .dir) n)) n)
-      (λ h. rw h (evict-agrees c CL P L N C u s (P .choose (s .dir) n) A (L .choose-place (s .dir) n (A .orderly) hn)))
+      (λ h. rw h (evict-agrees c CL P L N C u s (P .choose (s .dir) n) A (L .choose-place (s .dir) n (A .good .orderly) hn)))
       (λ h. rw h A)
 
   pub drop-frees : (s : Cached) (n : ℕ) → n < N → L .Orderly N (s .dir) → Free P (evictLine c P n s .state .dir) n
@@ -77,15 +77,15 @@ module _ (c : Cipher) (CL : CipherLaws c) (P : Placement) (L : PlacementLaws P) 
                 bytes = nth-put-bytes 64 n w x (u .mem) (zx .bytes) (A .plainMem .bytes);
               };
           plainMacs = nth-put-length 16 N (u .macs) (A .plainMacs) v n y hn zy;
-          mem =
+          bytes = nth-put-bytes 64 n w x (s .mem) (zx .bytes) (A .bytes);
+          good =
               record {
-                size = nth-put-length 64 N (s .mem) (A .mem .size) w n x hn (zx .size);
-                bytes = nth-put-bytes 64 n w x (s .mem) (zx .bytes) (A .mem .bytes);
+                mem = nth-put-length 64 N (s .mem) (A .good .mem) w n x hn (zx .size);
+                macs = nth-put-length 16 N (s .macs) (A .good .macs) v n y hn zy;
+                cache = A .good .cache;
+                places = A .good .places;
+                orderly = A .good .orderly;
               };
-          macs = nth-put-length 16 N (s .macs) (A .macs) v n y hn zy;
-          cache = A .cache;
-          places = A .places;
-          orderly = A .orderly;
           held =
               λ q hq h.
               let i = P .look (s .dir) q .line in
@@ -93,8 +93,8 @@ module _ (c : Cipher) (CL : CipherLaws c) (P : Placement) (L : PlacementLaws P) 
               held-moves c (P .look (s .dir) q) refl
               (sym (nth-put-other 64 N (u .mem) (A .plainMem .size) w i n x hn (zx .size) d))
               (sym (nth-put-other 16 N (u .macs) (A .plainMacs) v i n y hn zy d))
-              (sym (nth-put-other 64 N (s .mem) (A .mem .size) w i n x hn (zx .size) d))
-              (sym (nth-put-other 16 N (s .macs) (A .macs) v i n y hn zy d))
+              (sym (nth-put-other 64 N (s .mem) (A .good .mem) w i n x hn (zx .size) d))
+              (sym (nth-put-other 16 N (s .macs) (A .good .macs) v i n y hn zy d))
               refl
               (A .held q hq h);
           free =
@@ -105,18 +105,18 @@ module _ (c : Cipher) (CL : CipherLaws c) (P : Placement) (L : PlacementLaws P) 
               (record {
                 lines =
                     nth-put-here 64 N (u .mem) (A .plainMem .size) w n x hn (zx .size)
-                    ∙ (rw (A .free n hn f .lines) (sym (nth-put-here 64 N (s .mem) (A .mem .size) w n x hn (zx .size))));
+                    ∙ (rw (A .free n hn f .lines) (sym (nth-put-here 64 N (s .mem) (A .good .mem) w n x hn (zx .size))));
                 macs =
                     nth-put-here 16 N (u .macs) (A .plainMacs) v n y hn zy
-                    ∙ (rw (A .free n hn f .macs) (sym (nth-put-here 16 N (s .macs) (A .macs) v n y hn zy)));
+                    ∙ (rw (A .free n hn f .macs) (sym (nth-put-here 16 N (s .macs) (A .good .macs) v n y hn zy)));
               }))
               (λ a.
               record {
                 lines =
                     nth-put-other 64 N (u .mem) (A .plainMem .size) w i n x hn (zx .size) a
-                    ∙ (A .free i hi g .lines ∙ sym (nth-put-other 64 N (s .mem) (A .mem .size) w i n x hn (zx .size) a));
+                    ∙ (A .free i hi g .lines ∙ sym (nth-put-other 64 N (s .mem) (A .good .mem) w i n x hn (zx .size) a));
                 macs =
                     nth-put-other 16 N (u .macs) (A .plainMacs) v i n y hn zy a
-                    ∙ (A .free i hi g .macs ∙ sym (nth-put-other 16 N (s .macs) (A .macs) v i n y hn zy a));
+                    ∙ (A .free i hi g .macs ∙ sym (nth-put-other 16 N (s .macs) (A .good .macs) v i n y hn zy a));
               });
         }

@@ -8,11 +8,9 @@ use mathlib.Core.Bool.{Bool, true, false, false≢true}
 use mathlib.Core.List.{List}
 use lib.ListN.{length}
 use Rattle.lists.specs.If.{if}
-use Rattle.lists.specs.Bytes.{zeros}
-use Rattle.lists.proofs.ByteLaws.{length-zeros}
+use Rattle.lists.specs.Bytes.{Bytes}
 use Rattle.lists.proofs.Cases.{by-eq, by-test}
 use Rattle.lists.proofs.PartLaws.{by-parts}
-use Rattle.lists.proofs.NthLaws.{nth-put-length}
 use Rattle.model.specs.Cipher.{Cipher}
 use Rattle.model.specs.CipherLaws.{Sized, CipherLaws}
 use Rattle.model.specs.Lines.{lineAt, putLine, macAt, putMac}
@@ -20,8 +18,11 @@ use Rattle.model.specs.Placement.{Entry, Placement}
 use Rattle.model.specs.PlacementLaws.{PlacementLaws}
 use Rattle.model.specs.Uncached.{Uncached}
 use Rattle.model.specs.Cached.{Cached, thenDo, evictPlace, evictFrom, evictAll, losePlace, loseFrom, loseAll, asItStands}
+use Rattle.keeps.specs.Good.{Good}
+use Rattle.keeps.proofs.Evict.{evict-length, evict-here, evict-other}
+use Rattle.keeps.proofs.Requests.{lose-good, lose-length}
 use Rattle.agree.specs.Agree.{Held, HeldAt, Free, Same, Agree, AllEmpty}
-use Rattle.agree.proofs.Evict.{evict-agrees, evict-length, evict-here, evict-other}
+use Rattle.agree.proofs.Evict.{evict-agrees}
 
 module _ (c : Cipher) (CL : CipherLaws c) (P : Placement) (L : PlacementLaws P) (N C : ℕ) where
   -- the places below m are empty
@@ -64,17 +65,14 @@ module _ (c : Cipher) (CL : CipherLaws c) (P : Placement) (L : PlacementLaws P) 
   unfolding evictAll
   all-empties s = flush-empties (length (s .dir)) 0 s (omega arith) (record { none = λ q a b. absurd (omega arith) })
 
-  -- a memory in use: its sizes, its key and its directory are right
+  -- a memory in use: a key of 16 bytes, memory of bytes, right sizes and an orderly directory
   pub record Proper (s : Cached) : Type 0 where
     pub key : Sized 16 (s .key)
-    pub mem : Sized (N * 64) (s .mem)
-    pub macs : length (s .macs) ≡ N * 16
-    pub cache : length (s .cache) ≡ length (s .dir) * 64
-    pub places : length (s .dir) ≡ C
-    pub orderly : L .Orderly N (s .dir)
+    pub bytes : Bytes (s .mem)
+    pub good : Good P L N C s
 
   pub proper : (u : Uncached) (s : Cached) → Agree c P L N C u s → Proper s
-  proper u s A = record { key = A .key; mem = A .mem; macs = A .macs; cache = A .cache; places = A .places; orderly = A .orderly }
+  proper u s A = record { key = A .key; bytes = A .bytes; good = A .good }
 
   -- with every place empty, memory and MAC area as they stand agree: at the start, and after a cut
   pub fresh-agrees : (s : Cached) → Proper s → AllEmpty P (s .dir) → Agree c P L N C (asItStands s) s
@@ -83,13 +81,10 @@ module _ (c : Cipher) (CL : CipherLaws c) (P : Placement) (L : PlacementLaws P) 
       record {
         keys = refl;
         key = r .key;
-        plainMem = r .mem;
-        plainMacs = r .macs;
-        mem = r .mem;
-        macs = r .macs;
-        cache = r .cache;
-        places = r .places;
-        orderly = r .orderly;
+        plainMem = record { size = r .good .mem; bytes = r .bytes };
+        plainMacs = r .good .macs;
+        bytes = r .bytes;
+        good = r .good;
         held = λ p h w. absurd (false≢true (sym (E .unused p h) ∙ w));
         free = λ n h f. record { lines = refl; macs = refl };
       }
@@ -100,11 +95,11 @@ module _ (c : Cipher) (CL : CipherLaws c) (P : Placement) (L : PlacementLaws P) 
   -- with every place empty, the two memories are one
   pub same-mem : (u : Uncached) (s : Cached) → Agree c P L N C u s → AllEmpty P (s .dir) → u .mem ≡ s .mem
   unfolding lineAt
-  same-mem u s A E = by-parts 64 N (u .mem) (s .mem) (A .plainMem .size) (A .mem .size) (λ n h. A .free n h (nowhere (s .dir) n E) .lines)
+  same-mem u s A E = by-parts 64 N (u .mem) (s .mem) (A .plainMem .size) (A .good .mem) (λ n h. A .free n h (nowhere (s .dir) n E) .lines)
 
   pub same-macs : (u : Uncached) (s : Cached) → Agree c P L N C u s → AllEmpty P (s .dir) → u .macs ≡ s .macs
   unfolding macAt
-  same-macs u s A E = by-parts 16 N (u .macs) (s .macs) (A .plainMacs) (A .macs) (λ n h. A .free n h (nowhere (s .dir) n E) .macs)
+  same-macs u s A E = by-parts 16 N (u .macs) (s .macs) (A .plainMacs) (A .good .macs) (λ n h. A .free n h (nowhere (s .dir) n E) .macs)
 
   -- with every place empty, another key may be taken
   pub rekey-agrees : (u : Uncached) (s : Cached) (k : List ℕ) → Agree c P L N C u s → AllEmpty P (s .dir) → Sized 16 k → Agree c P L N C (record { key = k; mem = u .mem; macs = u .macs }) (record { key = k; mem = s .mem; macs = s .macs; cache = s .cache; dir = s .dir })
@@ -112,23 +107,12 @@ module _ (c : Cipher) (CL : CipherLaws c) (P : Placement) (L : PlacementLaws P) 
   rekey-agrees u s k A E z =
       rw (same-mem u s A E, same-macs u s A E)
       (fresh-agrees (record { key = k; mem = s .mem; macs = s .macs; cache = s .cache; dir = s .dir })
-      (record { key = z; mem = A .mem; macs = A .macs; cache = A .cache; places = A .places; orderly = A .orderly }) E)
+      (record { key = z; bytes = A .bytes; good = record { mem = A .good .mem; macs = A .good .macs; cache = A .good .cache; places = A .good .places; orderly = A .good .orderly } }) E)
 
   -- a slot that is lost: memory and MAC area stand, the rest is as after an eviction
   lose-proper : (s : Cached) (p : ℕ) → p < length (s .dir) → Proper s → Proper (losePlace P p s)
-  unfolding losePlace putLine
-  lose-proper s p hp r =
-      record {
-        key = r .key;
-        mem = r .mem;
-        macs = r .macs;
-        cache =
-            by-test (P .look (s .dir) p .used)
-            (λ h. rw (h, L .clear-length (s .dir) p) (nth-put-length 64 (length (s .dir)) (s .cache) (r .cache) true p (zeros 64) hp (length-zeros 64)))
-            (λ h. rw h (r .cache));
-        places = by-test (P .look (s .dir) p .used) (λ h. rw h (L .clear-length (s .dir) p ∙ r .places)) (λ h. rw h (r .places));
-        orderly = by-test (P .look (s .dir) p .used) (λ h. rw h (L .clear-orderly (s .dir) p (r .orderly) hp)) (λ h. rw h (r .orderly));
-      }
+  unfolding losePlace
+  lose-proper s p hp r = record { key = r .key; bytes = r .bytes; good = lose-good c CL P L N C s p hp (r .good) }
 
   lose-dir : (s : Cached) (p : ℕ) → losePlace P p s .dir ≡ evictPlace c P p s .state .dir
   unfolding losePlace evictPlace
@@ -144,7 +128,7 @@ module _ (c : Cipher) (CL : CipherLaws c) (P : Placement) (L : PlacementLaws P) 
   losing zero p s e E r = record { rest = r; gone = all-of-them p (s .dir) (omega arith) E }
   losing (suc k) p s e E r =
       let t = losePlace P p s in
-      let l : length (t .dir) ≡ length (s .dir) = rw (lose-dir s p) (evict-length c CL P L N C s p) in
+      let l : length (t .dir) ≡ length (s .dir) = lose-length c CL P L N C s p in
       losing k (p + 1) t (rw l (omega arith))
       (one-more p (s .dir) (t .dir) E l (λ h. rw (lose-dir s p) (evict-here c CL P L N C s p h)) (λ q d. rw (lose-dir s p) (evict-other c CL P L N C s p q d)))
       (lose-proper s p (omega arith) r)

@@ -9,7 +9,7 @@ use Rattle.lists.specs.If.{if}
 use Rattle.lists.specs.Bytes.{zeros}
 use Rattle.lists.proofs.ByteLaws.{length-zeros}
 use Rattle.lists.proofs.Cases.{by-eq, by-test}
-use Rattle.lists.proofs.NthLaws.{nth-length, nth-put-length, nth-put-here, nth-put-other, nth-put-bytes}
+use Rattle.lists.proofs.NthLaws.{nth-put-here, nth-put-other, nth-put-bytes}
 use Rattle.model.specs.Tags.{Tag, noTag, secureInstruction, secureData}
 use Rattle.model.specs.Cipher.{Cipher}
 use Rattle.model.specs.CipherLaws.{Sized, CipherLaws}
@@ -18,7 +18,8 @@ use Rattle.model.specs.Placement.{Entry, Placement}
 use Rattle.model.specs.PlacementLaws.{PlacementLaws}
 use Rattle.model.specs.Uncached.{Uncached}
 use Rattle.model.specs.Cached.{Cached, evictPlace}
-use Rattle.model.proofs.LineLaws.{line-sized, mac-length, seen-sized, stored-sized, signed-length}
+use Rattle.model.proofs.LineLaws.{line-sized, seen-sized, stored-sized}
+use Rattle.keeps.proofs.Evict.{evict-length, evict-here, evict-other, evict-empty, evict-good, in-memory, home-mac}
 use Rattle.agree.proofs.Update.{one-place, update-agrees}
 use Rattle.agree.specs.Agree.{Held, HeldAt, Free, Same, Agree}
 
@@ -27,7 +28,7 @@ module _ (c : Cipher) (CL : CipherLaws c) (P : Placement) (L : PlacementLaws P) 
   pub body-sized : (u : Uncached) (s : Cached) (p : ℕ) → Agree c P L N C u s → p < length (s .dir) → P .look (s .dir) p .used ≡ true → Sized 64 (lineAt p (s .cache))
   body-sized u s p A hp h =
       let e = P .look (s .dir) p in
-      rw (A .held p hp h .viewed) (seen-sized c CL (s .key) (A .key) (e .line) (e .tag) (lineAt (e .line) (u .mem)) (line-sized N (e .line) (u .mem) (A .plainMem) (L .held-line (s .dir) p (A .orderly) hp h)))
+      rw (A .held p hp h .viewed) (seen-sized c CL (s .key) (A .key) (e .line) (e .tag) (lineAt (e .line) (u .mem)) (line-sized N (e .line) (u .mem) (A .plainMem) (L .held-line (s .dir) p (A .good .orderly) hp h)))
 
   -- a used slot is evicted
   module _ (u : Uncached) (s : Cached) (p : ℕ) (A : Agree c P L N C u s) (hp : p < length (s .dir)) (h : P .look (s .dir) p .used ≡ true) where
@@ -50,81 +51,44 @@ module _ (c : Cipher) (CL : CipherLaws c) (P : Placement) (L : PlacementLaws P) 
           dir = P .clear (s .dir) p;
         }
 
-    in-memory : e .line < N
-    in-memory = L .held-line (s .dir) p (A .orderly) hp h
-
     line-fits : Sized 64 line
     line-fits = stored-sized c CL (s .key) (A .key) (e .line) (e .tag) (lineAt p (s .cache)) (body-sized u s p A hp h)
 
-    mac-fits : length mac ≡ 16
-    mac-fits =
-        signed-length c CL (s .key) (A .key) (e .line) (e .tag) line (macAt (e .line) (s .macs)) line-fits
-        (mac-length N (e .line) (s .macs) (A .macs) in-memory)
-
     evict-used : Agree c P L N C u next
-    unfolding lineAt macAt putLine putMac
+    unfolding lineAt macAt putLine putMac evictPlace
     evict-used =
         update-agrees c P L N C (e .line) p u u s next A hp
         (record {
           occupant = λ w. refl;
-          alone = λ q d hq w z. d (one-place c P L N C (s .dir) p q (A .orderly) hp hq h w z);
+          alone = λ q d hq w z. d (one-place c P L N C (s .dir) p q (A .good .orderly) hp hq h w z);
           named = λ w. absurd (false≢true (sym (L .clear-here (s .dir) p hp) ∙ w));
           plainKey = refl;
           key = refl;
-          places = L .clear-length (s .dir) p;
           looks = L .clear-other (s .dir) p;
-          slots = λ q d. nth-put-other 64 (length (s .dir)) (s .cache) (A .cache) true q p (zeros 64) hp (length-zeros 64) d;
+          slots = λ q d. nth-put-other 64 (length (s .dir)) (s .cache) (A .good .cache) true q p (zeros 64) hp (length-zeros 64) d;
           plainLines = λ i d. refl;
           plainMacs = λ i d. refl;
-          lines = λ i d. nth-put-other 64 N (s .mem) (A .mem .size) (e .dirty) i (e .line) line in-memory (line-fits .size) d;
-          macs = λ i d. nth-put-other 16 N (s .macs) (A .macs) (e .dirty) i (e .line) mac in-memory mac-fits d;
+          lines = λ i d. nth-put-other 64 N (s .mem) (A .good .mem) (e .dirty) i (e .line) line (in-memory c CL P L N C s p (A .good) hp h) (line-fits .size) d;
+          macs = λ i d. nth-put-other 16 N (s .macs) (A .good .macs) (e .dirty) i (e .line) mac (in-memory c CL P L N C s p (A .good) hp h) (home-mac c CL P L N C s p (A .good) hp h) d;
           plainMemSize = A .plainMem;
           plainMacsSize = A .plainMacs;
-          memSize =
-              record {
-                size = nth-put-length 64 N (s .mem) (A .mem .size) (e .dirty) (e .line) line in-memory (line-fits .size);
-                bytes = nth-put-bytes 64 (e .line) (e .dirty) line (s .mem) (line-fits .bytes) (A .mem .bytes);
-              };
-          macsSize = nth-put-length 16 N (s .macs) (A .macs) (e .dirty) (e .line) mac in-memory mac-fits;
-          cacheSize = nth-put-length 64 (length (s .dir)) (s .cache) (A .cache) true p (zeros 64) hp (length-zeros 64);
-          orderly = L .clear-orderly (s .dir) p (A .orderly) hp;
+          bytes = nth-put-bytes 64 (e .line) (e .dirty) line (s .mem) (line-fits .bytes) (A .bytes);
+          good = rw h at (evict-good c CL P L N C s p (A .good) hp);
           here = λ w. absurd (false≢true (sym (L .clear-here (s .dir) p hp) ∙ w));
           home =
               λ w.
               record {
-                lines = A .held p hp h .lines ∙ sym (nth-put-here 64 N (s .mem) (A .mem .size) (e .dirty) (e .line) line in-memory (line-fits .size));
-                macs = A .held p hp h .macs ∙ sym (nth-put-here 16 N (s .macs) (A .macs) (e .dirty) (e .line) mac in-memory mac-fits);
+                lines = A .held p hp h .lines ∙ sym (nth-put-here 64 N (s .mem) (A .good .mem) (e .dirty) (e .line) line (in-memory c CL P L N C s p (A .good) hp h) (line-fits .size));
+                macs = A .held p hp h .macs ∙ sym (nth-put-here 16 N (s .macs) (A .good .macs) (e .dirty) (e .line) mac (in-memory c CL P L N C s p (A .good) hp h) (home-mac c CL P L N C s p (A .good) hp h));
               };
         })
-
-  -- an empty slot changes nothing
-  evict-empty : (s : Cached) (p : ℕ) → L .Orderly N (s .dir) → p < length (s .dir) → P .look (s .dir) p .used ≡ false → evictPlace c P p s .state ≡ s
-  unfolding evictPlace
-  evict-empty s p o hp h = rw (L .empty-clean (s .dir) p o hp h, h)
 
   pub evict-agrees : (u : Uncached) (s : Cached) (p : ℕ) → Agree c P L N C u s → p < length (s .dir) → Agree c P L N C u (evictPlace c P p s .state)
   unfolding evictPlace
   evict-agrees u s p A hp =
       by-test (P .look (s .dir) p .used)
       (λ h. rw h (evict-used u s p A hp h))
-      (λ h. rw (evict-empty s p (A .orderly) hp h) A)
-
-  -- what evicting does to the directory: its length stands, the slot is empty, the other places are as they were
-  pub evict-length : (s : Cached) (p : ℕ) → length (evictPlace c P p s .state .dir) ≡ length (s .dir)
-  unfolding evictPlace
-  evict-length s p = by-test (P .look (s .dir) p .used) (λ h. rw h (L .clear-length (s .dir) p)) (λ h. rw h)
-
-  pub evict-here : (s : Cached) (p : ℕ) → p < length (s .dir) → P .look (evictPlace c P p s .state .dir) p .used ≡ false
-  unfolding evictPlace
-  evict-here s p hp = by-test (P .look (s .dir) p .used) (λ h. rw h (L .clear-here (s .dir) p hp)) (λ h. rw h h)
-
-  pub evict-other : (s : Cached) (p q : ℕ) → q ≢ p → P .look (evictPlace c P p s .state .dir) q ≡ P .look (s .dir) q
-  unfolding evictPlace
-  evict-other s p q d = by-test (P .look (s .dir) p .used) (λ h. rw h (L .clear-other (s .dir) p q d)) (λ h. rw h)
-
-  pub evict-mine : (s : Cached) (p n q : ℕ) → L .Orderly N (s .dir) → p < length (s .dir) → L .Mine N (s .dir) n q → L .Mine N (evictPlace c P p s .state .dir) n q
-  unfolding evictPlace
-  evict-mine s p n q o hp m = by-test (P .look (s .dir) p .used) (λ h. rw h (L .clear-mine (s .dir) n q p o hp m)) (λ h. rw h m)
+      (λ h. rw (evict-empty c CL P L N C s p (A .good .orderly) hp h) A)
 
   -- a line whose place was evicted is held nowhere
   pub evict-frees : (s : Cached) (n p : ℕ) → L .Orderly N (s .dir) → p < length (s .dir) → P .choose (s .dir) n ≡ p → Free P (evictPlace c P p s .state .dir) n
@@ -133,10 +97,10 @@ module _ (c : Cipher) (CL : CipherLaws c) (P : Placement) (L : PlacementLaws P) 
         nowhere =
             λ q hq w z.
             by-eq q p
-            (λ a. false≢true (sym (evict-here s p hp) ∙ subst (λ (r : ℕ). P .look (evictPlace c P p s .state .dir) r .used ≡ true) a w))
+            (λ a. false≢true (sym (evict-here c CL P L N C s p hp) ∙ subst (λ (r : ℕ). P .look (evictPlace c P p s .state .dir) r .used ≡ true) a w))
             (λ a.
-            let hq′ : q < length (s .dir) = rw (evict-length s p) at hq in
-            let w′ : P .look (s .dir) q .used ≡ true = rw (evict-other s p q a) at w in
-            let z′ : P .look (s .dir) q .line ≡ n = rw (evict-other s p q a) at z in
+            let hq′ : q < length (s .dir) = rw (evict-length c CL P L N C s p) at hq in
+            let w′ : P .look (s .dir) q .used ≡ true = rw (evict-other c CL P L N C s p q a) at w in
+            let z′ : P .look (s .dir) q .line ≡ n = rw (evict-other c CL P L N C s p q a) at z in
             a (sym (L .held-chosen (s .dir) q o hq′ w′) ∙ (ap (P .choose (s .dir)) z′ ∙ e)));
       }

@@ -16,7 +16,7 @@ use Rattle.model.specs.Requests.{Request, access, evict, busRead, busWrite, bus
 use Rattle.model.specs.Uncached.{Uncached, uncachedHandle, uncached}
 use Rattle.model.specs.Cached.{Cached, accessPlace, readyPlace, evictLine, evictAll, cachedHandle, cached}
 use Rattle.agree.specs.Agree.{Free, Agree}
-use Rattle.agree.specs.Sound.{Fair, fair-access, fair-evict, fair-busRead, fair-busWrite, fair-busMac, fair-writeBack, fair-rekey, Sound, sound-ret, sound-ask}
+use Rattle.keeps.specs.Sound.{Fair, fair-access, fair-evict, fair-busRead, fair-busWrite, fair-busMac, fair-writeBack, fair-rekey, Sound, sound-ret, sound-ask}
 use Rattle.agree.proofs.Access.{ready, reply-alike, state-alike}
 use Rattle.agree.proofs.Bus.{drop-agrees, drop-frees, bus-agrees}
 use Rattle.agree.proofs.Everything.{all-agrees, all-empties, rekey-agrees}
@@ -33,9 +33,10 @@ module _ (c : Cipher) (CL : CipherLaws c) (P : Placement) (L : PlacementLaws P) 
 
   pub answers-alike : (q : Request) (u : Uncached) (s : Cached) → Fair N q → Agree c P L N C u s → Alike (uncachedHandle c q u) (cachedHandle c P q s)
   unfolding uncachedHandle cachedHandle accessPlace
-  answers-alike (access tag n write change) u s (fair-access hn k lines) A =
+  answers-alike (access tag n write change) u s (fair-access hn k sizes bytes) A =
       let p = P .choose (s .dir) n in
       let r = readyPlace c P tag n p s in
+      let lines : (l : List ℕ) → Sized 64 l → Sized 64 (change l) = λ l z. record { size = sizes l (z .size); bytes = bytes l (z .bytes) } in
       let R = ready c CL P L N C u s tag n p A hn refl in
       record {
         replies = reply-alike c CL P L N C u (r .state) tag n p (r .ok) write change R hn k lines;
@@ -44,19 +45,19 @@ module _ (c : Cipher) (CL : CipherLaws c) (P : Placement) (L : PlacementLaws P) 
   answers-alike (evict n) u s (fair-evict hn) A = record { replies = refl; states = drop-agrees c CL P L N C u s n hn A }
   answers-alike (busRead n) u s (fair-busRead hn) A =
       let B : Agree c P L N C u (evictLine c P n s .state) = drop-agrees c CL P L N C u s n hn A in
-      record { replies = ap some (B .free n hn (drop-frees c CL P L N C s n hn (A .orderly)) .lines); states = B }
+      record { replies = ap some (B .free n hn (drop-frees c CL P L N C s n hn (A .good .orderly)) .lines); states = B }
   answers-alike (busWrite n x) u s (fair-busWrite hn z) A =
       record {
         replies = refl;
         states =
-            bus-agrees c CL P L N C u (evictLine c P n s .state) n hn (drop-agrees c CL P L N C u s n hn A) (drop-frees c CL P L N C s n hn (A .orderly))
+            bus-agrees c CL P L N C u (evictLine c P n s .state) n hn (drop-agrees c CL P L N C u s n hn A) (drop-frees c CL P L N C s n hn (A .good .orderly))
             true false x (zeros 16) z (length-zeros 16);
       }
   answers-alike (busMac n x) u s (fair-busMac hn z) A =
       record {
         replies = refl;
         states =
-            bus-agrees c CL P L N C u (evictLine c P n s .state) n hn (drop-agrees c CL P L N C u s n hn A) (drop-frees c CL P L N C s n hn (A .orderly))
+            bus-agrees c CL P L N C u (evictLine c P n s .state) n hn (drop-agrees c CL P L N C u s n hn A) (drop-frees c CL P L N C s n hn (A .good .orderly))
             false true (zeros 64) x (zeros-sized 64) (z .size);
       }
   answers-alike writeBack u s fair-writeBack A = record { replies = refl; states = all-agrees c CL P L N C u s A }

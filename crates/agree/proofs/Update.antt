@@ -5,6 +5,7 @@ use mathlib.Core.Logic.{_≢_}
 use mathlib.Core.Bool.{true, false, false≢true}
 use mathlib.Core.List.{List}
 use lib.ListN.{length}
+use Rattle.lists.specs.Bytes.{Bytes}
 use Rattle.lists.proofs.Cases.{by-eq, by-test}
 use Rattle.model.specs.Cipher.{Cipher}
 use Rattle.model.specs.CipherLaws.{Sized}
@@ -13,6 +14,7 @@ use Rattle.model.specs.Placement.{Entry, Placement}
 use Rattle.model.specs.PlacementLaws.{PlacementLaws}
 use Rattle.model.specs.Uncached.{Uncached}
 use Rattle.model.specs.Cached.{Cached}
+use Rattle.keeps.specs.Good.{Good}
 use Rattle.agree.specs.Agree.{Held, HeldAt, Free, Same, Agree}
 
 -- a held line after the lists around it were replaced by equal ones
@@ -33,7 +35,6 @@ module _ (c : Cipher) (P : Placement) (L : PlacementLaws P) (N C : ℕ) where
     -- what stands
     pub plainKey : u′ .key ≡ u .key
     pub key : s′ .key ≡ s .key
-    pub places : length (s′ .dir) ≡ length (s .dir)
     pub looks : (q : ℕ) → q ≢ p → P .look (s′ .dir) q ≡ P .look (s .dir) q
     pub slots : (q : ℕ) → q ≢ p → lineAt q (s′ .cache) ≡ lineAt q (s .cache)
     pub plainLines : (i : ℕ) → i ≢ n → lineAt i (u′ .mem) ≡ lineAt i (u .mem)
@@ -43,15 +44,16 @@ module _ (c : Cipher) (P : Placement) (L : PlacementLaws P) (N C : ℕ) where
     -- sizes
     pub plainMemSize : Sized (N * 64) (u′ .mem)
     pub plainMacsSize : length (u′ .macs) ≡ N * 16
-    pub memSize : Sized (N * 64) (s′ .mem)
-    pub macsSize : length (s′ .macs) ≡ N * 16
-    pub cacheSize : length (s′ .cache) ≡ length (s .dir) * 64
-    pub orderly : L .Orderly N (s′ .dir)
+    pub bytes : Bytes (s′ .mem)
+    pub good : Good P L N C s′
     -- the slot and the line agree again
     pub here : P .look (s′ .dir) p .used ≡ true → HeldAt c (P .look (s′ .dir) p) p u′ s′
     pub home : P .look (s′ .dir) p .used ≡ false → Same n u′ s′
 
   module _ (n p : ℕ) (u u′ : Uncached) (s s′ : Cached) (A : Agree c P L N C u s) (hp : p < length (s .dir)) (U : Updated n p u u′ s s′) where
+    same-places : length (s′ .dir) ≡ length (s .dir)
+    same-places = U .good .places ∙ sym (A .good .places)
+
     others : (q : ℕ) → q ≢ p → q < length (s .dir) → P .look (s .dir) q .used ≡ true → HeldAt c (P .look (s .dir) q) q u′ s′
     others q d hq w =
         let i = P .look (s .dir) q .line in
@@ -67,7 +69,7 @@ module _ (c : Cipher) (P : Placement) (L : PlacementLaws P) (N C : ℕ) where
               λ q hq w z.
               by-eq q p
               (λ b. a (sym z ∙ (ap (λ (r : ℕ). P .look (s .dir) r .line) b ∙ U .occupant (subst (λ (r : ℕ). P .look (s .dir) r .used ≡ true) b w))))
-              (λ b. f .nowhere q (rw (U .places) hq) (rw (U .looks q b) w) (rw (U .looks q b) z));
+              (λ b. f .nowhere q (rw same-places hq) (rw (U .looks q b) w) (rw (U .looks q b) z));
         }
 
     elsewhere : (i : ℕ) → i ≢ n → i < N → Free P (s′ .dir) i → Same i u′ s′
@@ -85,22 +87,19 @@ module _ (c : Cipher) (P : Placement) (L : PlacementLaws P) (N C : ℕ) where
           key = rw (U .key) (A .key);
           plainMem = U .plainMemSize;
           plainMacs = U .plainMacsSize;
-          mem = U .memSize;
-          macs = U .macsSize;
-          cache = rw (U .places) (U .cacheSize);
-          places = U .places ∙ A .places;
-          orderly = U .orderly;
+          bytes = U .bytes;
+          good = U .good;
           held =
               λ q hq w.
               by-eq q p
               (λ a. rw a (U .here (subst (λ (r : ℕ). P .look (s′ .dir) r .used ≡ true) a w)))
-              (λ a. rw (U .looks q a) (others q a (rw (U .places) at hq) (rw (U .looks q a) at w)));
+              (λ a. rw (U .looks q a) (others q a (rw same-places at hq) (rw (U .looks q a) at w)));
           free =
               λ i hi f.
               by-eq i n
               (λ a.
               by-test (P .look (s′ .dir) p .used)
-              (λ w. absurd (f .nowhere p (rw (U .places) hp) w (U .named w ∙ sym a)))
+              (λ w. absurd (f .nowhere p (rw same-places hp) w (U .named w ∙ sym a)))
               (λ w. rw a (U .home w)))
               (λ a. elsewhere i a hi f);
         }

@@ -5,6 +5,7 @@ use mathlib.Core.Bool.{true, false}
 use mathlib.Core.List.{List}
 use lib.ListN.{length}
 use Rattle.lists.specs.If.{if}
+use Rattle.lists.specs.Bytes.{Bytes}
 use Rattle.model.specs.Cipher.{Cipher}
 use Rattle.model.specs.CipherLaws.{Sized}
 use Rattle.model.specs.Lines.{lineAt, macAt, seen, stored, signed, passes}
@@ -12,6 +13,7 @@ use Rattle.model.specs.Placement.{Entry, Placement}
 use Rattle.model.specs.PlacementLaws.{PlacementLaws}
 use Rattle.model.specs.Uncached.{Uncached}
 use Rattle.model.specs.Cached.{Cached}
+use Rattle.keeps.specs.Good.{Good}
 
 -- A held line, from its entry, the manual's line and MAC, the cached memory's line and MAC, and the slot's bytes:
 -- the manual has what a write-back would leave, that passes the entry's check, and the slot has what the tag sees of it.
@@ -45,10 +47,7 @@ pub record Agree (c : Cipher) (P : Placement) (L : PlacementLaws P) (N C : ℕ) 
   pub key : Sized 16 (s .key)
   pub plainMem : Sized (N * 64) (u .mem)
   pub plainMacs : length (u .macs) ≡ N * 16
-  pub mem : Sized (N * 64) (s .mem)
-  pub macs : length (s .macs) ≡ N * 16
-  pub cache : length (s .cache) ≡ length (s .dir) * 64
-  pub places : length (s .dir) ≡ C
-  pub orderly : L .Orderly N (s .dir)
+  pub bytes : Bytes (s .mem)
+  pub good : Good P L N C s
   pub held : (p : ℕ) → p < length (s .dir) → P .look (s .dir) p .used ≡ true → HeldAt c (P .look (s .dir) p) p u s
   pub free : (n : ℕ) → n < N → Free P (s .dir) n → Same n u s

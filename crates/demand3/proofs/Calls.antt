@@ -18,7 +18,7 @@ use Rattle.model.specs.Requests.{Request, evict, writeBack, Reply, Prog, Memory
 use Rattle.model.specs.Uncached.{Uncached, uncachedHandle, uncached}
 use Rattle.model.specs.Cached.{Cached, cachedHandle, cached, loseAll, asItStands}
 use Rattle.agree.specs.Agree.{Agree}
-use Rattle.agree.specs.Sound.{Fair, fair-evict, fair-busRead, fair-busWrite, fair-busMac, fair-writeBack}
+use Rattle.keeps.specs.Sound.{Fair, fair-evict, fair-busRead, fair-busWrite, fair-busMac, fair-writeBack}
 use Rattle.agree.proofs.Requests.{Alike, answers-alike, RanAlike, runs-alike}
 use Rattle.agree.proofs.Everything.{proper, cut-agrees}
 use Rattle.instructions.specs.Rules.{firstOf}
@@ -55,13 +55,13 @@ module _ (B : Board) (BL : BoardLaws B) (c : Cipher) (CL : CipherLaws c) (N C : 
   unfolding step uncachedHouse cachedHouse uncached cached
   step-alike left u s G =
       let A = G .memories in
-      let sizes : length (s .memory .mem) ≡ length (u .memory .mem) = A .mem .size ∙ sym (A .plainMem .size) in
+      let sizes : length (s .memory .mem) ≡ length (u .memory .mem) = A .good .mem ∙ sym (A .plainMem .size) in
       let one = instruction B c (s .memory .key) (length (s .memory .mem)) (s .processor) in
       let other = instruction B c (u .memory .key) (length (u .memory .mem)) (u .processor) in
       let e : one ≡ other = λ i. instruction B c (sym (A .keys) i) (sizes i) (sym (G .processors) i) in
       subst (λ (q : Prog Stepped). RanAlike c CL (B .placement) (BL .placement) N C (perform (uncached c left) q (u .memory)) (perform (cached c (B .placement)) one (s .memory))) e
       (runs-alike c CL (B .placement) (BL .placement) N C left one (u .memory) (s .memory)
-      (instruction-sound B (BL .words) (BL .wholeWords) N (length (s .memory .mem)) (A .mem .size) (s .processor) c (s .memory .key)) A)
+      (instruction-sound B (BL .words) (BL .wholeWords) N (length (s .memory .mem)) (A .good .mem) (s .processor) c (s .memory .key)) A)
 
   -- a run that goes on with what its rest gives, or stops behind the step
   goes-on : (going : Bool) (f i : ℕ) (ru : Result Uncached) (rs : Result Cached) (mu : Machine Uncached) (ms : Machine Cached) (lu ls : List Note) → ResultsAlike ru rs → Agreeing mu ms → ResultsAlike (record { answer = if going (ru .answer) f; steps = if going (ru .steps) i; buffer = []; machine = if going (ru .machine) mu; log = lu }) (record { answer = if going (rs .answer) f; steps = if going (rs .steps) i; buffer = []; machine = if going (rs .machine) ms; log = ls })
@@ -122,16 +122,16 @@ module _ (B : Board) (BL : BoardLaws B) (c : Cipher) (CL : CipherLaws c) (N C : 
       (ap₂ (λ (k : List ℕ) (r : Processor). entered B c k 32 r) (G .memories .keys) (G .processors)) (G .memories)
   accepted-alike (busRead n x) u s b z G =
       asked-alike _ (Request.busRead n) (u .processor) (s .processor) (replied x) (u .memory) (s .memory)
-      (fair-busRead (line-in (length (s .memory .mem)) n (bufferFlaws 64 x) (G .memories .mem .size) z .0)) (G .processors) (G .memories)
+      (fair-busRead (line-in (length (s .memory .mem)) n (bufferFlaws 64 x) (G .memories .good .mem) z .0)) (G .processors) (G .memories)
   accepted-alike (busWrite n x) u s b z G =
-      let h = line-in (length (s .memory .mem)) n (bufferFlaws 64 x) (G .memories .mem .size) z in
+      let h = line-in (length (s .memory .mem)) n (bufferFlaws 64 x) (G .memories .good .mem) z in
       asked-alike _ (Request.busWrite n x) (u .processor) (s .processor) (λ reply. x) (u .memory) (s .memory) (fair-busWrite (h .0) (buffer-sized 64 x (h .1) b)) (G .processors) (G .memories)
   accepted-alike (busMac n x) u s b z G =
-      let h = line-in (length (s .memory .mem)) n (bufferFlaws 16 x) (G .memories .mem .size) z in
+      let h = line-in (length (s .memory .mem)) n (bufferFlaws 16 x) (G .memories .good .mem) z in
       asked-alike _ (Request.busMac n x) (u .processor) (s .processor) (λ reply. x) (u .memory) (s .memory) (fair-busMac (h .0) (buffer-sized 16 x (h .1) b)) (G .processors) (G .memories)
   accepted-alike (evictLine n) u s b z G =
       asked-alike _ (evict n) (u .processor) (s .processor) (λ reply. []) (u .memory) (s .memory)
-      (fair-evict (line-in (length (s .memory .mem)) n [] (G .memories .mem .size) z .0)) (G .processors) (G .memories)
+      (fair-evict (line-in (length (s .memory .mem)) n [] (G .memories .good .mem) z .0)) (G .processors) (G .memories)
   accepted-alike writeBackAll u s b z G =
       asked-alike _ writeBack (u .processor) (s .processor) (λ reply. []) (u .memory) (s .memory) fair-writeBack (G .processors) (G .memories)
   accepted-alike reboot u s b z G =
@@ -146,13 +146,13 @@ module _ (B : Board) (BL : BoardLaws B) (c : Cipher) (CL : CipherLaws c) (N C : 
   flaws-alike : (u : Uncached) (s : Cached) → Agree c (B .placement) (BL .placement) N C u s → firstOf (uncachedFlaws u) ≡ firstOf (cachedFlaws B s)
   unfolding uncachedFlaws cachedFlaws memoryFlaws cacheFlaws
   flaws-alike u s A =
-      let n : length (s .mem) / 64 ≡ N = omega (arith, A .mem .size) in
-      rw (A .plainMem .size, A .plainMacs, A .mem .size, A .macs, A .cache, eq-eqb (length (s .dir) * 64) (length (s .dir) * 64) refl, A .places, slots, ← A .mem .size, n, BL .passes N (s .dir) (A .orderly))
+      let n : length (s .mem) / 64 ≡ N = omega (arith, A .good .mem) in
+      rw (A .plainMem .size, A .plainMacs, A .good .mem, A .good .macs, A .good .cache, eq-eqb (length (s .dir) * 64) (length (s .dir) * 64) refl, A .good .places, slots, ← A .good .mem, n, BL .passes N (s .dir) (A .good .orderly))
 
   refusal-alike : (left : Uncached) (call : Call) (u : Machine Uncached) (s : Machine Cached) → Agreeing u s → refusal (uncachedHouse c left) call u ≡ refusal (cachedHouse B c) call s
   unfolding refusal uncachedHouse cachedHouse uncached cached
   refusal-alike left call u s G =
-      let sizes : length (u .memory .mem) ≡ length (s .memory .mem) = G .memories .plainMem .size ∙ sym (G .memories .mem .size) in
+      let sizes : length (u .memory .mem) ≡ length (s .memory .mem) = G .memories .plainMem .size ∙ sym (G .memories .good .mem) in
       λ i. orElse (flaws-alike (u .memory) (s .memory) (G .memories) i) (orElse (firstOf (recordFlaws (G .processors i))) (firstOf (callFlaws (sizes i) call)))
 
   -- a call that is not refused is not refused for its line, buffer or n

@@ -20,7 +20,7 @@ use Rattle.model.specs.Tags.{Tag, noTag, secureInstruction, secureData, isData,
 use Rattle.model.specs.Cipher.{Cipher}
 use Rattle.model.specs.CipherLaws.{Sized}
 use Rattle.model.specs.Requests.{Prog, ret, ask, andThen}
-use Rattle.agree.specs.Sound.{Fair, fair-access, fair-rekey, Sound, sound-ret, sound-ask}
+use Rattle.keeps.specs.Sound.{Fair, fair-access, fair-rekey, Sound, sound-ret, sound-ask}
 use Rattle.instructions.specs.Rules.{firstOf, pick, oneOf}
 use Rattle.instructions.specs.Board.{Board}
 use Rattle.instructions.specs.Record.{Processor, active}
@@ -42,18 +42,15 @@ data FairWish (N : ℕ) : Wish → Type 0 where
   fair-word : {tag : Tag} {a k : ℕ} {write : Bool} {v : ℕ} → a / 64 < N → a % 64 + k ≤ 64 → (write ≡ true → tag ≡ secureInstruction → ⊥) → FairWish N (word tag a k write v)
   fair-newKey : {key : List ℕ} → Sized 16 key → FairWish N (newKey key)
 
--- a line with a word replaced is a line
-word-put : (o k v : ℕ) (l : List ℕ) → o + k ≤ 64 → Sized 64 l → Sized 64 (putAt o k (littleBytes k v) l)
-word-put o k v l h z =
-    record {
-      size = length-put o k (littleBytes k v) l (length-littleBytes k v) (rw (z .size) h) ∙ z .size;
-      bytes = bytes-put o k (littleBytes k v) l (bytes-littleBytes k v) (z .bytes);
-    }
-
 grant-sound : (N : ℕ) (wish : Wish) → FairWish N wish → Sound N (grant wish)
 unfolding grant
 grant-sound N idle fair-idle = sound-ret
-grant-sound N (word tag a k write v) (fair-word h o t) = sound-ask (fair-access h t (λ l z. word-put (a % 64) k v l o z)) (λ r. sound-ret)
+grant-sound N (word tag a k write v) (fair-word h o t) =
+    sound-ask
+    (fair-access h t
+    (λ l z. length-put (a % 64) k (littleBytes k v) l (length-littleBytes k v) (rw z o) ∙ z)
+    (λ l b. bytes-put (a % 64) k (littleBytes k v) l (bytes-littleBytes k v) b))
+    (λ r. sound-ret)
 grant-sound N (newKey key) (fair-newKey z) = sound-ask (fair-rekey z) (λ r. sound-ret)
 
 -- of rules in a row, none of the first applied where the result is 0

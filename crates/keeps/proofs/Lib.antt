@@ -1,0 +1,3 @@
+pub mod Evict
+pub mod Access
+pub mod Requests
