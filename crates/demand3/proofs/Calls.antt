@@ -29,7 +29,7 @@ use Rattle.instructions.specs.Step.{Stepped, instruction}
 use Rattle.instructions.specs.Refusals.{orElse, memoryFlaws, cacheFlaws, cachedFlaws, uncachedFlaws, recordFlaws, lineFlaws, bufferFlaws}
 use Rattle.instructions.specs.Calls.{Call, run, interrupt, busRead, busWrite, busMac, evictLine, writeBackAll, reboot, powerCut, bufferOf, callFlaws, Machine, Result, House, cachedHouse, uncachedHouse, refusal, step, runFrom, asked, changed, replied, accepted, refused, called}
 use Rattle.demand3.specs.BoardLaws.{BoardLaws}
-use Rattle.demand3.specs.Statement.{withCache, withoutCache}
+use Rattle.demand3.specs.Statement.{withCache, withoutCache, Agreeing}
 use Rattle.demand3.proofs.Sound.{none-first, instruction-sound}
 
 -- neither of two numbers, of which the second counts where the first is 0
@@ -38,20 +38,15 @@ unfolding orElse
 or-else-zero a b z = by-test (eqb a 0) (λ h. rw h at z) (λ h. absurd (eqb-false a 0 h (rw h at z)))
 
 module _ (B : Board) (BL : BoardLaws B) (c : Cipher) (CL : CipherLaws c) (N C : ℕ) (slots : B .slotsFine C ≡ true) where
-  -- two machines that agree: the same record, and memories that agree
-  pub record Agreeing (u : Machine Uncached) (s : Machine Cached) : Type 0 where
-    pub processors : u .processor ≡ s .processor
-    pub memories : Agree c (B .placement) (BL .placement) N C (u .memory) (s .memory)
-
   -- two results that are alike, of machines that agree
   pub record ResultsAlike (u : Result Uncached) (s : Result Cached) : Type 0 where
     pub answers : u .answer ≡ s .answer
     pub steps : u .steps ≡ s .steps
     pub buffers : u .buffer ≡ s .buffer
-    pub machines : Agreeing (u .machine) (s .machine)
+    pub machines : Agreeing B BL c N C (u .machine) (s .machine)
 
   -- one step
-  step-alike : (left : Uncached) (u : Machine Uncached) (s : Machine Cached) → Agreeing u s → RanAlike c CL (B .placement) (BL .placement) N C (step B c (uncachedHouse c left) u) (step B c (cachedHouse B c) s)
+  step-alike : (left : Uncached) (u : Machine Uncached) (s : Machine Cached) → Agreeing B BL c N C u s → RanAlike c CL (B .placement) (BL .placement) N C (step B c (uncachedHouse c left) u) (step B c (cachedHouse B c) s)
   unfolding step uncachedHouse cachedHouse uncached cached
   step-alike left u s G =
       let A = G .memories in
@@ -64,18 +59,18 @@ module _ (B : Board) (BL : BoardLaws B) (c : Cipher) (CL : CipherLaws c) (N C : 
       (instruction-sound B (BL .words) (BL .wholeWords) N (length (s .memory .mem)) (A .good .mem) (s .processor) c (s .memory .key)) A)
 
   -- a run that goes on with what its rest gives, or stops behind the step
-  goes-on : (going : Bool) (f i : ℕ) (ru : Result Uncached) (rs : Result Cached) (mu : Machine Uncached) (ms : Machine Cached) (lu ls : List Note) → ResultsAlike ru rs → Agreeing mu ms → ResultsAlike (record { answer = if going (ru .answer) f; steps = if going (ru .steps) i; buffer = []; machine = if going (ru .machine) mu; log = lu }) (record { answer = if going (rs .answer) f; steps = if going (rs .steps) i; buffer = []; machine = if going (rs .machine) ms; log = ls })
+  goes-on : (going : Bool) (f i : ℕ) (ru : Result Uncached) (rs : Result Cached) (mu : Machine Uncached) (ms : Machine Cached) (lu ls : List Note) → ResultsAlike ru rs → Agreeing B BL c N C mu ms → ResultsAlike (record { answer = if going (ru .answer) f; steps = if going (ru .steps) i; buffer = []; machine = if going (ru .machine) mu; log = lu }) (record { answer = if going (rs .answer) f; steps = if going (rs .steps) i; buffer = []; machine = if going (rs .machine) ms; log = ls })
   goes-on true f i ru rs mu ms lu ls R G = record { answers = R .answers; steps = R .steps; buffers = refl; machines = R .machines }
   goes-on false f i ru rs mu ms lu ls R G = record { answers = refl; steps = refl; buffers = refl; machines = G }
 
-  run-alike : (left : Uncached) (k i : ℕ) (u : Machine Uncached) (s : Machine Cached) → Agreeing u s → ResultsAlike (runFrom B c (uncachedHouse c left) k i u) (runFrom B c (cachedHouse B c) k i s)
+  run-alike : (left : Uncached) (k i : ℕ) (u : Machine Uncached) (s : Machine Cached) → Agreeing B BL c N C u s → ResultsAlike (runFrom B c (uncachedHouse c left) k i u) (runFrom B c (cachedHouse B c) k i s)
   unfolding runFrom
   run-alike left zero i u s G = record { answers = refl; steps = refl; buffers = refl; machines = G }
   run-alike left (suc k) i u s G =
       let a = step B c (uncachedHouse c left) u in
       let b = step B c (cachedHouse B c) s in
       let S : RanAlike c CL (B .placement) (BL .placement) N C a b = step-alike left u s G in
-      let H : Agreeing (record { processor = b .out .processor; memory = a .state }) (record { processor = b .out .processor; memory = b .state }) =
+      let H : Agreeing B BL c N C (record { processor = b .out .processor; memory = a .state }) (record { processor = b .out .processor; memory = b .state }) =
       record { processors = refl; memories = S .states } in
       rw (S .outs)
       (goes-on (eqb (b .out .fault) 0) (b .out .fault) (i + 1)
@@ -113,7 +108,7 @@ module _ (B : Board) (BL : BoardLaws B) (c : Cipher) (CL : CipherLaws c) (N C : 
       record { size = eqb-true (length x) k (not-false (eqb (length x) k) (a .0)); bytes = b }
 
   -- a call that is not refused
-  accepted-alike : (call : Call) (u : Machine Uncached) (s : Machine Cached) → Bytes (bufferOf call) → firstOf (callFlaws (length (s .memory .mem)) call) ≡ 0 → Agreeing u s
+  accepted-alike : (call : Call) (u : Machine Uncached) (s : Machine Cached) → Bytes (bufferOf call) → firstOf (callFlaws (length (s .memory .mem)) call) ≡ 0 → Agreeing B BL c N C u s
       → ResultsAlike (accepted B c (uncachedHouse c (asItStands (accepted B c (cachedHouse B c) call s .machine .memory))) call u) (accepted B c (cachedHouse B c) call s)
   unfolding accepted callFlaws bufferOf uncachedHouse cachedHouse uncached cached changed lineFlaws
   accepted-alike (run n) u s b z G = run-alike _ n 0 u s G
@@ -149,7 +144,7 @@ module _ (B : Board) (BL : BoardLaws B) (c : Cipher) (CL : CipherLaws c) (N C : 
       let n : length (s .mem) / 64 ≡ N = omega (arith, A .good .mem) in
       rw (A .plainMem .size, A .plainMacs, A .good .mem, A .good .macs, A .good .cache, eq-eqb (length (s .dir) * 64) (length (s .dir) * 64) refl, A .good .places, slots, ← A .good .mem, n, BL .passes N (s .dir) (A .good .orderly))
 
-  refusal-alike : (left : Uncached) (call : Call) (u : Machine Uncached) (s : Machine Cached) → Agreeing u s → refusal (uncachedHouse c left) call u ≡ refusal (cachedHouse B c) call s
+  refusal-alike : (left : Uncached) (call : Call) (u : Machine Uncached) (s : Machine Cached) → Agreeing B BL c N C u s → refusal (uncachedHouse c left) call u ≡ refusal (cachedHouse B c) call s
   unfolding refusal uncachedHouse cachedHouse uncached cached
   refusal-alike left call u s G =
       let sizes : length (u .memory .mem) ≡ length (s .memory .mem) = G .memories .plainMem .size ∙ sym (G .memories .good .mem) in
@@ -163,7 +158,7 @@ module _ (B : Board) (BL : BoardLaws B) (c : Cipher) (CL : CipherLaws c) (N C : 
       (or-else-zero (firstOf (cachedFlaws B (s .memory))) (orElse (firstOf (recordFlaws (s .processor))) (firstOf (callFlaws (length (s .memory .mem)) call))) z)
 
   -- every call is answered alike
-  pub called-alike : (call : Call) (u : Machine Uncached) (s : Machine Cached) → Bytes (bufferOf call) → Agreeing u s → ResultsAlike (withoutCache B c call u (withCache B c call s)) (withCache B c call s)
+  pub called-alike : (call : Call) (u : Machine Uncached) (s : Machine Cached) → Bytes (bufferOf call) → Agreeing B BL c N C u s → ResultsAlike (withoutCache B c call u (withCache B c call s)) (withCache B c call s)
   unfolding withoutCache withCache called refused
   called-alike call u s b G =
       let n = refusal (cachedHouse B c) call s in

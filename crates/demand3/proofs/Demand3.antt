@@ -21,9 +21,9 @@ use Rattle.instructions.specs.Record.{Processor}
 use Rattle.instructions.specs.Refusals.{sizeFine, memoryFlaws, cacheFlaws, cachedFlaws}
 use Rattle.instructions.specs.Calls.{Call, Machine, Result, bufferOf}
 use Rattle.demand3.specs.BoardLaws.{BoardLaws}
-use Rattle.demand3.specs.Statement.{writtenBack, withCache, withoutCache, SameOutside, AlwaysSame, ended, next, LentBytes, no-more, bytes-then, Startable}
-use Rattle.demand3.proofs.Sound.{none-first}
-use Rattle.demand3.proofs.Calls.{Agreeing, ResultsAlike, called-alike}
+use Rattle.demand3.specs.Statement.{writtenBack, withCache, withoutCache, SameOutside, AlwaysSame, ended, next, LentBytes, no-more, bytes-then, Startable, Agreeing, Demand3, CallsKeepAgreement}
+use Rattle.demand3.proofs.Lent.{lent-good}
+use Rattle.demand3.proofs.Calls.{ResultsAlike, called-alike}
 
 module _ (B : Board) (BL : BoardLaws B) (c : Cipher) (CL : CipherLaws c) (N C : ℕ) (slots : B .slotsFine C ≡ true) where
   -- memories that agree are one once everything is written back
@@ -48,9 +48,26 @@ module _ (B : Board) (BL : BoardLaws B) (c : Cipher) (CL : CipherLaws c) (N C : 
       }
 
   -- from any machines that agree
-  pub always-same : (calls : List Call) (u : Machine Uncached) (s : Machine Cached) → LentBytes calls → Agreeing B BL c CL N C slots u s → AlwaysSame B c calls u s
+  pub always-same : (calls : List Call) (u : Machine Uncached) (s : Machine Cached) → LentBytes calls → Agreeing B BL c N C u s → AlwaysSame B c calls u s
   always-same [] u s no-more G = ended
   always-same (call ∷ calls) u s (bytes-then b bs) G =
       let R = called-alike B BL c CL N C slots call u s b G in
       next (outside (withoutCache B c call u (withCache B c call s)) (withCache B c call s) R)
       (always-same calls (withoutCache B c call u (withCache B c call s) .machine) (withCache B c call s .machine) bs (R .machines))
+
+-- Demand 3
+pub demand3 : Demand3
+unfolding asItStands
+demand3 B BL c CL s Z r calls bs =
+    let l = lent-good B BL s (Z .accepted) in
+    let N = length (s .mem) / 64 in
+    let C = length (s .dir) in
+    always-same B BL c CL N C (l .slots) calls (record { processor = r; memory = asItStands s }) (record { processor = r; memory = s }) bs
+    (record {
+      processors = refl;
+      memories = fresh-agrees c CL (B .placement) (BL .placement) N C s (record { key = Z .key; bytes = Z .bytes; good = l .good }) (Z .empty);
+    })
+
+-- every call keeps the agreement
+pub calls-keep-agreement : CallsKeepAgreement
+calls-keep-agreement B BL c CL N C slots call u s b G = called-alike B BL c CL N C slots call u s b G .machines

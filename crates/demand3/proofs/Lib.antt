@@ -1,3 +1,5 @@
 pub mod Sound
+pub mod Lent
 pub mod Calls
 pub mod Demand3
+pub mod Document

@@ -6,7 +6,7 @@ use mathlib.Core.Bool.{Bool, true, false, _&&_, false≢true}
 use mathlib.Core.List.{List, [], _∷_}
 use lib.ListN.{length, getD}
 use Rattle.lists.specs.Bytes.{zeros}
-use Rattle.lists.proofs.ByteLaws.{length-zeros}
+use Rattle.lists.proofs.ByteLaws.{length-zeros, getD-zeros}
 use Rattle.lists.proofs.Cases.{both-hold}
 use Rattle.directory.specs.Direct.{fine, allFine, OrderlyDirect}
 use Rattle.directory.proofs.DirectLaws.{zero-fine}
@@ -51,3 +51,13 @@ orderly-scan N dir o =
     (λ i l.
     let e : 0 + i ≡ i = omega arith in
     rw e (o .numbers i l))
+
+-- a directory of zeros is orderly
+pub zeros-orderly : (N C : ℕ) → 0 < C → N ≤ 1024 → OrderlyDirect N (zeros C)
+unfolding zeros
+zeros-orderly N C h l =
+    record {
+      slots = rw (length-zeros C) h;
+      lines = l;
+      numbers = λ p hp. rw (getD-zeros C p (rw (length-zeros C) at hp)) (zero-fine N (length (zeros C)) p);
+    }

@@ -1,3 +1,4 @@
 pub mod Evict
 pub mod Access
 pub mod Requests
+pub mod Counts

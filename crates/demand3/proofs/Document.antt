@@ -1,0 +1,71 @@
+-- The board of document 01 is lawful, and demand 3 holds for it from reset.
+use Prim.Native.Nat.{ℕ, _+_, _*_, _/_, _%_, _≤_, _<_}
+use native.Mathlib.Omega.{arith}
+use mathlib.Core.Path.{_≡_, refl, sym, ap, _∙_, subst}
+use mathlib.Core.Bool.{Bool, true, false, not, _&&_}
+use mathlib.Core.List.{List, [], _∷_}
+use lib.ListN.{length, getD}
+use lib.Dec.{eqb, leb}
+use borrow.Author.Tests.{eq-eqb, leb-true, le-leb}
+use Rattle.lists.specs.Bytes.{Bytes, zeros}
+use Rattle.lists.proofs.ByteLaws.{length-zeros, getD-zeros}
+use Rattle.lists.proofs.Cases.{both-hold}
+use Rattle.model.specs.Cipher.{Cipher}
+use Rattle.model.specs.CipherLaws.{Sized, CipherLaws}
+use Rattle.model.specs.Cached.{Cached, asItStands}
+use Rattle.agree.specs.Agree.{AllEmpty}
+use Rattle.directory.specs.Numbers.{usedOf, entryOf}
+use Rattle.directory.specs.Direct.{direct, allFine, OrderlyDirect}
+use Rattle.directory.proofs.DirectLaws.{direct-laws, zero-fine, zero-unused}
+use Rattle.directory.proofs.Scan.{scan-orderly, orderly-scan, zeros-orderly}
+use Rattle.instructions.specs.Rules.{firstOf}
+use Rattle.instructions.specs.Board.{Board, documentBoard}
+use Rattle.instructions.specs.Record.{reset}
+use Rattle.instructions.specs.Refusals.{sizeFine, memoryFlaws, cacheFlaws, cachedFlaws}
+use Rattle.demand3.specs.BoardLaws.{BoardLaws}
+use Rattle.demand3.specs.Statement.{Startable, Demand3FromReset}
+use Rattle.demand3.proofs.Demand3.{demand3}
+
+unfoldable pub document-laws : BoardLaws documentBoard
+unfolding documentBoard direct-laws
+document-laws =
+    record {
+      placement = direct-laws;
+      passed = λ N dir s l h. scan-orderly N dir (leb-true 1 (length dir) (both-hold (leb 1 (length dir)) (leb (length dir) 64) s .0)) l h;
+      passes = λ N dir o. orderly-scan N dir o;
+      words = 8;
+      wholeWords = refl;
+    }
+
+-- a directory of zeros is empty
+zeros-empty : (C : ℕ) → AllEmpty direct (zeros C)
+unfolding direct entryOf
+zeros-empty C = record { unused = λ p h. rw (getD-zeros C p (rw (length-zeros C) at h)) zero-unused }
+
+document-empty : (C : ℕ) → AllEmpty (documentBoard .placement) (zeros C)
+unfolding documentBoard
+document-empty C = zeros-empty C
+
+-- a memory of document 01's size has at most 1,024 lines
+size-lines : (M : ℕ) → sizeFine M ≡ true → M / 64 ≤ 1024
+unfolding sizeFine
+size-lines M z =
+    let a = both-hold (eqb (M % 64) 0) (leb 128 M && leb M 65536) z in
+    let b = both-hold (leb 128 M) (leb M 65536) (a .1) in
+    omega (arith, leb-true M 65536 (b .1))
+
+-- nothing of such a memory with an empty cache is refused
+fresh-accepted : (s : Cached) (C : ℕ) → s .cache ≡ zeros (C * 64) → s .dir ≡ zeros C → sizeFine (length (s .mem)) ≡ true → length (s .macs) ≡ length (s .mem) / 4 → 1 ≤ C → C ≤ 64 → firstOf (cachedFlaws documentBoard s) ≡ 0
+unfolding documentBoard cachedFlaws memoryFlaws cacheFlaws
+fresh-accepted s C p q z e lo hi =
+    let M = length (s .mem) in
+    let scan : allFine (M / 64) (length (zeros C)) 0 (zeros C) ≡ true = orderly-scan (M / 64) (zeros C) (zeros-orderly (M / 64) C lo (size-lines M z)) in
+    rw (p, q, z, e, eq-eqb (M / 4) (M / 4) refl, scan, length-zeros C, length-zeros (C * 64), le-leb 1 C lo, le-leb C 64 hi, eq-eqb (C * 64) (C * 64) refl)
+
+pub demand3-from-reset : Demand3FromReset
+unfolding asItStands
+demand3-from-reset c CL drk mem macs srh C k b z e lo hi calls bs =
+    let s : Cached = record { key = drk; mem = mem; macs = macs; cache = zeros (C * 64); dir = zeros C } in
+    demand3 documentBoard document-laws c CL s
+    (record { accepted = fresh-accepted s C refl refl z e lo hi; bytes = b; key = k; empty = document-empty C })
+    (reset documentBoard srh) calls bs
