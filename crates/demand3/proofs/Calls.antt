@@ -93,7 +93,7 @@ module _ (B : Board) (BL : BoardLaws B) (c : Cipher) (CL : CipherLaws c) (N C : 
   changed-alike ru rs u s e A = record { answers = refl; steps = refl; buffers = refl; machines = record { processors = e; memories = A } }
 
   -- a line that is not refused is a line of memory, and a buffer that is not refused has its size
-  line-in : (M n : ℕ) (rest : List (Bool × ℕ)) → M ≡ N * 64 → firstOf (lineFlaws M n ++ rest) ≡ 0 → (n < N) × (firstOf rest ≡ 0)
+  pub line-in : (M n : ℕ) (rest : List (Bool × ℕ)) → M ≡ N * 64 → firstOf (lineFlaws M n ++ rest) ≡ 0 → (n < N) × (firstOf rest ≡ 0)
   unfolding lineFlaws
   line-in M n rest e z =
       let a = none-first (leb (M / 64) n) 106 (firstOf rest) (λ q. omega arith) z in
@@ -101,7 +101,7 @@ module _ (B : Board) (BL : BoardLaws B) (c : Cipher) (CL : CipherLaws c) (N C : 
       let h : n < N = omega arith in
       (h, a .1)
 
-  buffer-sized : (k : ℕ) (x : List ℕ) → firstOf (bufferFlaws k x) ≡ 0 → Bytes x → Sized k x
+  pub buffer-sized : (k : ℕ) (x : List ℕ) → firstOf (bufferFlaws k x) ≡ 0 → Bytes x → Sized k x
   unfolding bufferFlaws
   buffer-sized k x z b =
       let a = none-first (not (eqb (length x) k)) 107 0 (λ q. omega arith) z in
@@ -151,7 +151,7 @@ module _ (B : Board) (BL : BoardLaws B) (c : Cipher) (CL : CipherLaws c) (N C : 
       λ i. orElse (flaws-alike (u .memory) (s .memory) (G .memories) i) (orElse (firstOf (recordFlaws (G .processors i))) (firstOf (callFlaws (sizes i) call)))
 
   -- a call that is not refused is not refused for its line, buffer or n
-  none-refused : (call : Call) (s : Machine Cached) → refusal (cachedHouse B c) call s ≡ 0 → firstOf (callFlaws (length (s .memory .mem)) call) ≡ 0
+  pub none-refused : (call : Call) (s : Machine Cached) → refusal (cachedHouse B c) call s ≡ 0 → firstOf (callFlaws (length (s .memory .mem)) call) ≡ 0
   unfolding refusal cachedHouse cached
   none-refused call s z =
       or-else-zero (firstOf (recordFlaws (s .processor))) (firstOf (callFlaws (length (s .memory .mem)) call))

@@ -3,3 +3,4 @@ pub mod Lent
 pub mod Calls
 pub mod Demand3
 pub mod Document
+pub mod Kept

@@ -1,5 +1,6 @@
 -- The processor's record: all of 'The machine's parts' but the DRK, which lives with the memory that it seals.
-use Prim.Native.Nat.{ℕ, _/_}
+use Prim.Native.Nat.{ℕ, _/_, _≤_}
+use mathlib.Core.Path.{_≡_}
 use mathlib.Core.Bool.{Bool, false}
 use mathlib.Core.List.{List}
 use lib.ListN.{getD, set}
@@ -57,3 +58,8 @@ reset B srh =
       cid = 0;
       cem = record { mode = 0; lock = false; srh = srh; buffer = zeros (32 / B .wordBytes); saved = record { hash = zeros 16; address = 0; pid = 0; cid = 0 } };
     }
+
+-- a record that refusal 105 lets pass: R0 is zero and the mode is at most 2
+pub record Sane (r : Processor) : Type 0 where
+  pub zeroth : reg r 0 ≡ 0
+  pub mode : r .cem .mode ≤ 2
