@@ -4,3 +4,4 @@ pub mod Calls
 pub mod Demand3
 pub mod Document
 pub mod Kept
+pub mod Bounds

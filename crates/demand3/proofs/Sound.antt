@@ -37,12 +37,12 @@ sound-then N (ret a) f sound-ret g = g a
 sound-then N (ask q k) f (sound-ask h s) g = sound-ask h (λ r. sound-then N (k r) f (s r) g)
 
 -- what is asked of a wish
-data FairWish (N : ℕ) : Wish → Type 0 where
+pub data FairWish (N : ℕ) : Wish → Type 0 where
   fair-idle : FairWish N idle
   fair-word : {tag : Tag} {a k : ℕ} {write : Bool} {v : ℕ} → a / 64 < N → a % 64 + k ≤ 64 → (write ≡ true → tag ≡ secureInstruction → ⊥) → FairWish N (word tag a k write v)
   fair-newKey : {key : List ℕ} → Sized 16 key → FairWish N (newKey key)
 
-grant-sound : (N : ℕ) (wish : Wish) → FairWish N wish → Sound N (grant wish)
+pub grant-sound : (N : ℕ) (wish : Wish) → FairWish N wish → Sound N (grant wish)
 unfolding grant
 grant-sound N idle fair-idle = sound-ret
 grant-sound N (word tag a k write v) (fair-word h o t) =
@@ -59,7 +59,7 @@ none-first true n rest d e = absurd (d e)
 none-first false n rest d e = (refl, e)
 
 -- the fetch is fair: a pc without fault lies in memory, and four bytes lie in its line
-fetch-fair : (N M : ℕ) (r : Processor) → M ≡ N * 64 → FairWish N (fetchWish M r)
+pub fetch-fair : (N M : ℕ) (r : Processor) → M ≡ N * 64 → FairWish N (fetchWish M r)
 unfolding fetchWish fetchFault
 fetch-fair N M r e =
     by-test (eqb (fetchFault M r) 0)
