@@ -10,3 +10,4 @@ pub mod Step
 pub mod Refusals
 pub mod Calls
 pub mod Depot
+pub mod Marked
