@@ -6,12 +6,10 @@ use mathlib.Core.Bool.{Bool, true, false, _&&_, true≢false, false≢true}
 use mathlib.Core.List.{List}
 use mathlib.Core.Option.{none, some}
 use lib.ListN.{length}
-use lib.Dec.{eqb}
-use borrow.Author.Tests.{eqb-true}
 use Rattle.lists.specs.If.{if}
-use Rattle.lists.proofs.Cases.{by-eq, by-test, both-hold}
+use Rattle.lists.proofs.Cases.{by-test}
 use Rattle.lists.proofs.NthLaws.{nth-put-length, nth-put-here, nth-put-other, nth-put-bytes}
-use Rattle.model.specs.Tags.{Tag, noTag, secureInstruction, secureData, sameTag}
+use Rattle.model.specs.Tags.{Tag, noTag, secureInstruction, secureData}
 use Rattle.model.specs.Cipher.{Cipher}
 use Rattle.model.specs.CipherLaws.{Sized, CipherLaws}
 use Rattle.model.specs.Lines.{lineAt, putLine, macAt, putMac, seen, stored, signed, passes}
@@ -20,7 +18,8 @@ use Rattle.model.specs.PlacementLaws.{PlacementLaws, Tame}
 use Rattle.model.specs.Requests.{access}
 use Rattle.model.specs.Uncached.{Uncached, uncachedHandle}
 use Rattle.model.specs.Cached.{Cached, serves, hitPlace, evictPlace, fillPlace, thenDo, readyPlace, writePlace, accessPlace, cachedHandle}
-use Rattle.model.proofs.LineLaws.{line-sized, mac-length, seen-sized, stored-sized, signed-length, seen-stored, passes-signed, sameTag-true}
+use Rattle.model.proofs.LineLaws.{line-sized, mac-length, seen-sized, stored-sized, signed-length, seen-stored, passes-signed}
+use Rattle.model.proofs.Ways.{serving}
 use Rattle.keeps.specs.Good.{Good}
 use Rattle.keeps.proofs.Evict.{evict-here}
 use Rattle.keeps.proofs.Access.{Placed, chosen-placed, evict-placed, hit-placed, write-good}
@@ -28,16 +27,6 @@ use Rattle.agree.specs.Agree.{Held, HeldAt, Free, Same, Agree}
 use Rattle.agree.proofs.Update.{one-place, update-agrees}
 use Rattle.agree.proofs.Evict.{body-sized, evict-agrees, evict-frees}
 use Rattle.agree.proofs.Fill.{Ready, fill-ready}
-
--- an entry that serves holds the line under the tag
-serving : (e : Entry) (tag : Tag) (n : ℕ) → serves e tag n ≡ true → e ≡ holding n tag (e .dirty)
-unfolding serves holding
-serving e tag n h =
-    let a : (e .used ≡ true) × ((eqb (e .line) n && sameTag (e .tag) tag) ≡ true) = both-hold (e .used) (eqb (e .line) n && sameTag (e .tag) tag) h in
-    let b : (eqb (e .line) n ≡ true) × (sameTag (e .tag) tag ≡ true) = both-hold (eqb (e .line) n) (sameTag (e .tag) tag) (a .1) in
-    let l : e .line ≡ n = eqb-true (e .line) n (b .0) in
-    let t : e .tag ≡ tag = sameTag-true (e .tag) tag (b .1) in
-    λ i. record { used = a .0 i; line = l i; tag = t i; dirty = e .dirty }
 
 -- what is signed does not depend on a MAC that itself came from signing, or that stands as it was
 signed-again : (c : Cipher) (tag : Tag) (key : List ℕ) (n : ℕ) (l k m h : List ℕ) (d : Bool) → m ≡ if d (signed c tag key n k h) h → signed c tag key n l m ≡ signed c tag key n l h

@@ -5,3 +5,4 @@ pub mod Access
 pub mod Bus
 pub mod Everything
 pub mod Requests
+pub mod Traps

@@ -1,3 +1,4 @@
 pub mod Sane
 pub mod Phases
 pub mod Marked
+pub mod Traps

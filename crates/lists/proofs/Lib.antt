@@ -3,3 +3,4 @@ pub mod ByteLaws
 pub mod WordLaws
 pub mod NthLaws
 pub mod Cases
+pub mod Xor

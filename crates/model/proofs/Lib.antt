@@ -1,3 +1,5 @@
 pub mod LineLaws
 pub mod Perform
 pub mod Sums
+pub mod Ways
+pub mod Traps
