@@ -8,7 +8,7 @@ use borrow.Author.Tests.{eq-eqb, ne-eqb, eqb-true, eqb-false, le-leb, lt-ltb, lt
 use Rattle.lists.specs.If.{if}
 use Rattle.lists.proofs.Cases.{both-hold}
 use Rattle.model.specs.Tags.{Tag, noTag, secureInstruction, secureData, tagNumber}
-use Rattle.model.specs.Placement.{Entry, holding}
+use Rattle.model.specs.Placement.{Entry, empty, holding}
 use Rattle.model.specs.PlacementLaws.{Tame}
 use Rattle.directory.specs.Numbers.{usedOf, tagOf, dirtyOf, lineOf, entryOf, numberOf, isNumber}
 use Rattle.directory.specs.Direct.{fine}
@@ -112,3 +112,8 @@ number-fine N C p n t b hN hn e h =
     let tl = tag-le t in
     let bl = bit-le b in
     rw (ne-eqb (packed n m k) 0 (λ z. omega arith), packed-used n m k small tl bl, packed-line n m k small tl bl, packed-tag n m k small tl bl, packed-dirty n m k small tl bl, le-leb m 2 tl, lt-ltb (packed n m k) 16384 (packed-small n m k small tl bl), eq-eqb (n % C) p e, lt-ltb n N hn, tame-test t b h)
+
+-- the fields of an empty slot are zero
+pub entry-zero : entryOf 0 ≡ empty
+unfolding entryOf usedOf lineOf tagOf dirtyOf empty
+entry-zero = refl

@@ -1,9 +1,9 @@
 -- Traps met before, as small theorems: R0 is not hidden and a resume works; end_cem at offset 44 does not fall into the MAC; a run goes on.
 use Prim.Native.Nat.{ℕ, zero, suc, _+_, _*_, _/_, _%_}
 use mathlib.Core.Path.{_≡_, refl, sym, ap, ap₂, _∙_}
-use mathlib.Core.Bool.{Bool, true, false, _&&_}
+use mathlib.Core.Bool.{Bool, true, false, _&&_, _||_}
 use mathlib.Core.List.{List, [], _∷_, _++_}
-use lib.Dec.{eqb}
+use lib.Dec.{eqb, leb}
 use lib.Bits.{bitXor}
 use borrow.Author.Tests.{eq-eqb, ne-eqb}
 use Rattle.lists.specs.If.{if}
@@ -15,7 +15,7 @@ use Rattle.lists.proofs.Xor.{xor-undo}
 use Rattle.model.specs.Cipher.{Cipher}
 use Rattle.model.specs.Requests.{Ran}
 use Rattle.instructions.specs.Board.{Board, modulus}
-use Rattle.instructions.specs.Record.{Processor, active}
+use Rattle.instructions.specs.Record.{Processor, withThread, active}
 use Rattle.instructions.specs.Fields.{opcode}
 use Rattle.instructions.specs.Operations.{nextMode, taken, target, behind, nextPc, executed}
 use Rattle.instructions.specs.Suspend.{hashOf, xored, hidden, suspended, entered, resumes, restored, hashRight, returned}
@@ -39,15 +39,15 @@ module _ (B : Board) (c : Cipher) (key : List ℕ) (n : ℕ) (r : Processor) (on
   asleep = entered B c key n r
 
   pub resume-matches : resumes asleep ≡ true
-  unfolding resumes entered suspended
+  unfolding resumes entered suspended withThread
   resume-matches = rw (on, eq-eqb (r .pc) (r .pc) refl, eq-eqb (r .pid) (r .pid) refl, eq-eqb (r .cid) (r .cid) refl)
 
   pub resume-restores : restored B c key asleep ≡ r .regs
-  unfolding restored entered suspended
+  unfolding restored entered suspended withThread
   resume-restores = rw on (hidden-undo B c key (hashOf B c key (r .regs)) (r .regs))
 
   saved-hash : asleep .cem .saved .hash ≡ hashOf B c key (r .regs)
-  unfolding entered suspended
+  unfolding entered suspended withThread
   saved-hash = rw on
 
   pub resume-hash : hashRight B c key asleep ≡ true
@@ -55,7 +55,7 @@ module _ (B : Board) (c : Cipher) (key : List ℕ) (n : ℕ) (r : Processor) (on
   resume-hash = rw (resume-restores, saved-hash) (same-refl (hashOf B c key (r .regs)))
 
   pub resumed : (returned B c key asleep .regs ≡ r .regs) × (returned B c key asleep .pc ≡ r .pc) × (returned B c key asleep .cem .mode ≡ 1)
-  unfolding returned
+  unfolding returned withThread
   resumed = (rw (resume-matches, resume-restores), kept-pc, rw resume-matches)
     where
       kept-pc : asleep .epc ≡ r .pc
@@ -63,8 +63,9 @@ module _ (B : Board) (c : Cipher) (key : List ℕ) (n : ℕ) (r : Processor) (on
 
 -- end_cem in active mode at offset 44 goes to the next line
 pub end-at-44 : (B : Board) (c : Cipher) (key : List ℕ) (r : Processor) (w loaded : ℕ) → opcode w ≡ 40 → active r ≡ true → r .pc % 64 ≡ 44 → executed B c key r w loaded .pc ≡ (r .pc / 64 * 64 + 64) % modulus B
-unfolding executed nextPc taken behind active
-end-at-44 B c key r w loaded e a p = rw (e, a, p)
+unfolding executed nextPc taken behind active nextMode
+end-at-44 B c key r w loaded e a p =
+    rw (e, p) (ap (λ (t : Bool). if ((t || false) && leb 44 44) ((r .pc / 64 * 64 + 64) % modulus B) ((r .pc + 4) % modulus B)) a)
 
 -- a run goes on with the next instruction after each step without fault, and stops behind a step that faults
 module _ {S : Type 0} (B : Board) (c : Cipher) (H : House S) (k i : ℕ) (m : Machine S) where

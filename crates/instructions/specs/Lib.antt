@@ -11,3 +11,4 @@ pub mod Refusals
 pub mod Calls
 pub mod Depot
 pub mod Marked
+pub mod Listing

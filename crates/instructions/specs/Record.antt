@@ -42,6 +42,20 @@ reg r n = getD (r .regs) n 0
 unfoldable pub withReg : ℕ → ℕ → List ℕ → List ℕ
 withReg n v regs = if (eqb n 0) regs (set regs n v)
 
+-- the record with the registers, pc, mode and saved thread replaced, and all else as it is
+unfoldable pub withThread : List ℕ → ℕ → ℕ → Saved → Processor → Processor
+withThread regs pc mode saved r =
+    let k = r .cem in
+    record {
+      regs = regs;
+      pc = pc;
+      epc = r .epc;
+      cause = r .cause;
+      pid = r .pid;
+      cid = r .cid;
+      cem = record { mode = mode; lock = k .lock; srh = k .srh; buffer = k .buffer; saved = saved };
+    }
+
 -- is a concealed thread active?
 unfoldable pub active : Processor → Bool
 active r = eqb (r .cem .mode) 1

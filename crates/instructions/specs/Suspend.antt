@@ -11,7 +11,7 @@ use Rattle.lists.specs.Parts.{partAt}
 use Rattle.lists.specs.Words.{big, bigBytes}
 use Rattle.model.specs.Cipher.{Cipher}
 use Rattle.instructions.specs.Board.{Board}
-use Rattle.instructions.specs.Record.{Processor, Cem, active}
+use Rattle.instructions.specs.Record.{Processor, withThread, active}
 
 -- words as bytes, each high byte first
 unfoldable pub wordsBytes : ℕ → List ℕ → List ℕ
@@ -37,22 +37,9 @@ unfoldable pub suspended : Board → Cipher → List ℕ → Processor → Proce
 suspended B c key r =
     let hash = hashOf B c key (r .regs) in
     let on = active r in
-    record {
-      regs = if on (hidden B c key hash (r .regs)) (r .regs);
-      pc = r .pc;
-      epc = r .epc;
-      cause = r .cause;
-      pid = r .pid;
-      cid = r .cid;
-      cem =
-          record {
-            mode = if on 2 (r .cem .mode);
-            lock = r .cem .lock;
-            srh = r .cem .srh;
-            buffer = r .cem .buffer;
-            saved = if on (record { hash = hash; address = r .pc; pid = r .pid; cid = r .cid }) (r .cem .saved);
-          };
-    }
+    withThread (if on (hidden B c key hash (r .regs)) (r .regs)) (r .pc) (if on 2 (r .cem .mode))
+    (if on (record { hash = hash; address = r .pc; pid = r .pid; cid = r .cid }) (r .cem .saved))
+    r
 
 -- a fault or an interrupt: an active thread is suspended; then EPC = pc, cause = number, pc = 64
 unfoldable pub entered : Board → Cipher → List ℕ → ℕ → Processor → Processor
@@ -78,19 +65,4 @@ hashRight B c key r = same (hashOf B c key (restored B c key r)) (r .cem .saved 
 unfoldable pub returned : Board → Cipher → List ℕ → Processor → Processor
 returned B c key r =
     let on = resumes r in
-    record {
-      regs = if on (restored B c key r) (r .regs);
-      pc = r .epc;
-      epc = r .epc;
-      cause = r .cause;
-      pid = r .pid;
-      cid = r .cid;
-      cem =
-          record {
-            mode = if on 1 (r .cem .mode);
-            lock = r .cem .lock;
-            srh = r .cem .srh;
-            buffer = r .cem .buffer;
-            saved = r .cem .saved;
-          };
-    }
+    withThread (if on (restored B c key r) (r .regs)) (r .epc) (if on 1 (r .cem .mode)) (r .cem .saved) r
