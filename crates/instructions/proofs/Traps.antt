@@ -65,7 +65,7 @@ module _ (B : Board) (c : Cipher) (key : List ℕ) (n : ℕ) (r : Processor) (on
 pub end-at-44 : (B : Board) (c : Cipher) (key : List ℕ) (r : Processor) (w loaded : ℕ) → opcode w ≡ 40 → active r ≡ true → r .pc % 64 ≡ 44 → executed B c key r w loaded .pc ≡ (r .pc / 64 * 64 + 64) % modulus B
 unfolding executed nextPc taken behind active nextMode
 end-at-44 B c key r w loaded e a p =
-    rw (e, p) (ap (λ (t : Bool). if ((t || false) && leb 44 44) ((r .pc / 64 * 64 + 64) % modulus B) ((r .pc + 4) % modulus B)) a)
+    rw e (ap₂ (λ (t : Bool) (o : ℕ). if ((t || false) && leb 44 o) ((r .pc / 64 * 64 + 64) % modulus B) ((r .pc + 4) % modulus B)) a p)
 
 -- a run goes on with the next instruction after each step without fault, and stops behind a step that faults
 module _ {S : Type 0} (B : Board) (c : Cipher) (H : House S) (k i : ℕ) (m : Machine S) where
