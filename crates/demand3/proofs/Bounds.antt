@@ -31,7 +31,7 @@ use Rattle.instructions.specs.Operations.{Ra, address, keyFrom}
 use Rattle.instructions.specs.Wishes.{Wish, idle, word, newKey, Got, grant}
 use Rattle.instructions.specs.Step.{fetchWish, knownFault, dataWish, finished, instruction}
 use Rattle.instructions.specs.Faults.{fetchFault}
-use Rattle.instructions.specs.Calls.{Machine, Result, cachedHouse, step, runFrom}
+use Rattle.instructions.specs.Calls.{Machine, Result, cachedSetup, step, runFrom}
 use Rattle.instructions.proofs.Phases.{fetchPhase, dataPhase, phases}
 use Rattle.instructions.proofs.Sane.{flaws-sane}
 use Rattle.demand3.specs.BoardLaws.{BoardLaws}
@@ -95,7 +95,7 @@ data-no-key B M r got d =
     (λ h. rw h)
 
 pub two-lines : TwoLines
-unfolding fetched step cachedHouse cached fetchPhase dataPhase
+unfolding fetched step cachedSetup cached fetchPhase dataPhase
 two-lines B c m d =
     let P = B .placement in
     let M = length (m .memory .mem) in
@@ -108,8 +108,8 @@ two-lines B c m d =
 
 module _ (B : Board) (BL : BoardLaws B) (c : Cipher) (CL : CipherLaws c) (N C : ℕ) (slots : B .slotsFine C ≡ true) where
   -- any step
-  step-within : (m : Machine Cached) → Kept B BL c CL N C slots m → Within 2 (C + 2) (step B c (cachedHouse B c) m .log)
-  unfolding step cachedHouse cached fetchPhase dataPhase
+  step-within : (m : Machine Cached) → Kept B BL c CL N C slots m → Within 2 (C + 2) (step B c (cachedSetup B c) m .log)
+  unfolding step cachedSetup cached fetchPhase dataPhase
   step-within m K =
       let P = B .placement in
       let M = length (m .memory .mem) in
@@ -127,13 +127,13 @@ module _ (B : Board) (BL : BoardLaws B) (c : Cipher) (CL : CipherLaws c) (N C : 
   rest-within f w true log W = W
   rest-within f w false log W = within-more 0 0 f w [] (omega arith) (omega arith) within-none
 
-  run-within : (k i : ℕ) (m : Machine Cached) → Kept B BL c CL N C slots m → Within (k * 2) (k * (C + 2)) (runFrom B c (cachedHouse B c) k i m .log)
+  run-within : (k i : ℕ) (m : Machine Cached) → Kept B BL c CL N C slots m → Within (k * 2) (k * (C + 2)) (runFrom B c (cachedSetup B c) k i m .log)
   unfolding runFrom
   run-within zero i m K = within-more 0 0 (0 * 2) (0 * (C + 2)) [] (omega arith) (omega arith) within-none
   run-within (suc k) i m K =
-      let s = step B c (cachedHouse B c) m in
+      let s = step B c (cachedSetup B c) m in
       let next : Machine Cached = record { processor = s .out .processor; memory = s .state } in
-      let rest = runFrom B c (cachedHouse B c) k (i + 1) next .log in
+      let rest = runFrom B c (cachedSetup B c) k (i + 1) next .log in
       let going = eqb (s .out .fault) 0 in
       within-more (2 + k * 2) (C + 2 + k * (C + 2)) (suc k * 2) (suc k * (C + 2)) (s .log ++ (if going rest [])) (omega arith) (omega (arith, suc-mul k (C + 2)))
       (within-append 2 (C + 2) (k * 2) (k * (C + 2)) (s .log) (if going rest []) (step-within m K)

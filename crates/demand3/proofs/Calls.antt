@@ -27,7 +27,7 @@ use Rattle.instructions.specs.Record.{Processor, reset}
 use Rattle.instructions.specs.Suspend.{entered}
 use Rattle.instructions.specs.Step.{Stepped, instruction}
 use Rattle.instructions.specs.Refusals.{orElse, memoryFlaws, cacheFlaws, cachedFlaws, uncachedFlaws, recordFlaws, lineFlaws, bufferFlaws}
-use Rattle.instructions.specs.Calls.{Call, run, interrupt, busRead, busWrite, busMac, evictLine, writeBackAll, reboot, powerCut, bufferOf, callFlaws, Machine, Result, House, cachedHouse, uncachedHouse, refusal, step, runFrom, asked, changed, replied, accepted, refused, called}
+use Rattle.instructions.specs.Calls.{Call, run, interrupt, busRead, busWrite, busMac, evictLine, writeBackAll, reboot, powerCut, bufferOf, callFlaws, Machine, Result, Setup, cachedSetup, uncachedSetup, refusal, step, runFrom, asked, changed, replied, accepted, refused, called}
 use Rattle.demand3.specs.BoardLaws.{BoardLaws}
 use Rattle.demand3.specs.Statement.{withCache, withoutCache, Agreeing}
 use Rattle.demand3.proofs.Sound.{none-first, instruction-sound}
@@ -46,8 +46,8 @@ module _ (B : Board) (BL : BoardLaws B) (c : Cipher) (CL : CipherLaws c) (N C : 
     pub machines : Agreeing B BL c N C (u .machine) (s .machine)
 
   -- one step
-  step-alike : (left : Uncached) (u : Machine Uncached) (s : Machine Cached) → Agreeing B BL c N C u s → RanAlike c CL (B .placement) (BL .placement) N C (step B c (uncachedHouse c left) u) (step B c (cachedHouse B c) s)
-  unfolding step uncachedHouse cachedHouse uncached cached
+  step-alike : (left : Uncached) (u : Machine Uncached) (s : Machine Cached) → Agreeing B BL c N C u s → RanAlike c CL (B .placement) (BL .placement) N C (step B c (uncachedSetup c left) u) (step B c (cachedSetup B c) s)
+  unfolding step uncachedSetup cachedSetup uncached cached
   step-alike left u s G =
       let A = G .memories in
       let sizes : length (s .memory .mem) ≡ length (u .memory .mem) = A .good .mem ∙ sym (A .plainMem .size) in
@@ -63,25 +63,25 @@ module _ (B : Board) (BL : BoardLaws B) (c : Cipher) (CL : CipherLaws c) (N C : 
   goes-on true f i ru rs mu ms lu ls R G = record { answers = R .answers; steps = R .steps; buffers = refl; machines = R .machines }
   goes-on false f i ru rs mu ms lu ls R G = record { answers = refl; steps = refl; buffers = refl; machines = G }
 
-  run-alike : (left : Uncached) (k i : ℕ) (u : Machine Uncached) (s : Machine Cached) → Agreeing B BL c N C u s → ResultsAlike (runFrom B c (uncachedHouse c left) k i u) (runFrom B c (cachedHouse B c) k i s)
+  run-alike : (left : Uncached) (k i : ℕ) (u : Machine Uncached) (s : Machine Cached) → Agreeing B BL c N C u s → ResultsAlike (runFrom B c (uncachedSetup c left) k i u) (runFrom B c (cachedSetup B c) k i s)
   unfolding runFrom
   run-alike left zero i u s G = record { answers = refl; steps = refl; buffers = refl; machines = G }
   run-alike left (suc k) i u s G =
-      let a = step B c (uncachedHouse c left) u in
-      let b = step B c (cachedHouse B c) s in
+      let a = step B c (uncachedSetup c left) u in
+      let b = step B c (cachedSetup B c) s in
       let S : RanAlike c CL (B .placement) (BL .placement) N C a b = step-alike left u s G in
       let H : Agreeing B BL c N C (record { processor = b .out .processor; memory = a .state }) (record { processor = b .out .processor; memory = b .state }) =
       record { processors = refl; memories = S .states } in
       rw (S .outs)
       (goes-on (eqb (b .out .fault) 0) (b .out .fault) (i + 1)
-      (runFrom B c (uncachedHouse c left) k (i + 1) (record { processor = b .out .processor; memory = a .state }))
-      (runFrom B c (cachedHouse B c) k (i + 1) (record { processor = b .out .processor; memory = b .state }))
+      (runFrom B c (uncachedSetup c left) k (i + 1) (record { processor = b .out .processor; memory = a .state }))
+      (runFrom B c (cachedSetup B c) k (i + 1) (record { processor = b .out .processor; memory = b .state }))
       (record { processor = b .out .processor; memory = a .state }) (record { processor = b .out .processor; memory = b .state }) _ _
       (run-alike left k (i + 1) (record { processor = b .out .processor; memory = a .state }) (record { processor = b .out .processor; memory = b .state }) H) H)
 
   -- a call that is one fair request
-  asked-alike : (left : Uncached) (q : Request) (ru rs : Processor) (f : Reply → List ℕ) (u : Uncached) (s : Cached) → Fair N q → ru ≡ rs → Agree c (B .placement) (BL .placement) N C u s → ResultsAlike (asked (uncachedHouse c left) q ru f u) (asked (cachedHouse B c) q rs f s)
-  unfolding asked uncachedHouse cachedHouse uncached cached
+  asked-alike : (left : Uncached) (q : Request) (ru rs : Processor) (f : Reply → List ℕ) (u : Uncached) (s : Cached) → Fair N q → ru ≡ rs → Agree c (B .placement) (BL .placement) N C u s → ResultsAlike (asked (uncachedSetup c left) q ru f u) (asked (cachedSetup B c) q rs f s)
+  unfolding asked uncachedSetup cachedSetup uncached cached
   asked-alike left q ru rs f u s h e A =
       let R : Alike c CL (B .placement) (BL .placement) N C (uncachedHandle c q u) (cachedHandle c (B .placement) q s) =
       answers-alike c CL (B .placement) (BL .placement) N C q u s h A in
@@ -109,8 +109,8 @@ module _ (B : Board) (BL : BoardLaws B) (c : Cipher) (CL : CipherLaws c) (N C : 
 
   -- a call that is not refused
   accepted-alike : (call : Call) (u : Machine Uncached) (s : Machine Cached) → Bytes (bufferOf call) → firstOf (callFlaws (length (s .memory .mem)) call) ≡ 0 → Agreeing B BL c N C u s
-      → ResultsAlike (accepted B c (uncachedHouse c (asItStands (accepted B c (cachedHouse B c) call s .machine .memory))) call u) (accepted B c (cachedHouse B c) call s)
-  unfolding accepted callFlaws bufferOf uncachedHouse cachedHouse uncached cached changed lineFlaws
+      → ResultsAlike (accepted B c (uncachedSetup c (asItStands (accepted B c (cachedSetup B c) call s .machine .memory))) call u) (accepted B c (cachedSetup B c) call s)
+  unfolding accepted callFlaws bufferOf uncachedSetup cachedSetup uncached cached changed lineFlaws
   accepted-alike (run n) u s b z G = run-alike _ n 0 u s G
   accepted-alike interrupt u s b z G =
       changed-alike (entered B c (u .memory .key) 32 (u .processor)) (entered B c (s .memory .key) 32 (s .processor)) (u .memory) (s .memory)
@@ -144,15 +144,15 @@ module _ (B : Board) (BL : BoardLaws B) (c : Cipher) (CL : CipherLaws c) (N C : 
       let n : length (s .mem) / 64 ≡ N = omega (arith, A .good .mem) in
       rw (A .plainMem .size, A .plainMacs, A .good .mem, A .good .macs, A .good .cache, eq-eqb (length (s .dir) * 64) (length (s .dir) * 64) refl, A .good .places, slots, ← A .good .mem, n, BL .passes N (s .dir) (A .good .orderly))
 
-  refusal-alike : (left : Uncached) (call : Call) (u : Machine Uncached) (s : Machine Cached) → Agreeing B BL c N C u s → refusal (uncachedHouse c left) call u ≡ refusal (cachedHouse B c) call s
-  unfolding refusal uncachedHouse cachedHouse uncached cached
+  refusal-alike : (left : Uncached) (call : Call) (u : Machine Uncached) (s : Machine Cached) → Agreeing B BL c N C u s → refusal (uncachedSetup c left) call u ≡ refusal (cachedSetup B c) call s
+  unfolding refusal uncachedSetup cachedSetup uncached cached
   refusal-alike left call u s G =
       let sizes : length (u .memory .mem) ≡ length (s .memory .mem) = G .memories .plainMem .size ∙ sym (G .memories .good .mem) in
       λ i. orElse (flaws-alike (u .memory) (s .memory) (G .memories) i) (orElse (firstOf (recordFlaws (G .processors i))) (firstOf (callFlaws (sizes i) call)))
 
   -- a call that is not refused is not refused for its line, buffer or n
-  pub none-refused : (call : Call) (s : Machine Cached) → refusal (cachedHouse B c) call s ≡ 0 → firstOf (callFlaws (length (s .memory .mem)) call) ≡ 0
-  unfolding refusal cachedHouse cached
+  pub none-refused : (call : Call) (s : Machine Cached) → refusal (cachedSetup B c) call s ≡ 0 → firstOf (callFlaws (length (s .memory .mem)) call) ≡ 0
+  unfolding refusal cachedSetup cached
   none-refused call s z =
       or-else-zero (firstOf (recordFlaws (s .processor))) (firstOf (callFlaws (length (s .memory .mem)) call))
       (or-else-zero (firstOf (cachedFlaws B (s .memory))) (orElse (firstOf (recordFlaws (s .processor))) (firstOf (callFlaws (length (s .memory .mem)) call))) z)
@@ -161,10 +161,10 @@ module _ (B : Board) (BL : BoardLaws B) (c : Cipher) (CL : CipherLaws c) (N C : 
   pub called-alike : (call : Call) (u : Machine Uncached) (s : Machine Cached) → Bytes (bufferOf call) → Agreeing B BL c N C u s → ResultsAlike (withoutCache B c call u (withCache B c call s)) (withCache B c call s)
   unfolding withoutCache withCache called refused
   called-alike call u s b G =
-      let n = refusal (cachedHouse B c) call s in
+      let n = refusal (cachedSetup B c) call s in
       by-test (eqb n 0)
       (λ h.
-      rw (h, refusal-alike (asItStands (accepted B c (cachedHouse B c) call s .machine .memory)) call u s G, h)
+      rw (h, refusal-alike (asItStands (accepted B c (cachedSetup B c) call s .machine .memory)) call u s G, h)
       (accepted-alike call u s b (none-refused call s (eqb-true n 0 h)) G))
       (λ h.
       rw (h, refusal-alike (asItStands (refused n call s .machine .memory)) call u s G, h)

@@ -24,7 +24,7 @@ use Rattle.instructions.specs.Suspend.{entered}
 use Rattle.instructions.specs.Wishes.{Got, grant}
 use Rattle.instructions.specs.Step.{Stepped, fetchWish, dataWish, finished, instruction}
 use Rattle.instructions.specs.Refusals.{cachedFlaws, recordFlaws, sizeFine, lineFlaws, bufferFlaws}
-use Rattle.instructions.specs.Calls.{Call, run, interrupt, busRead, busWrite, busMac, evictLine, writeBackAll, reboot, powerCut, bufferOf, callFlaws, Machine, Result, cachedHouse, refusal, step, runFrom, asked, changed, replied, accepted, refused, called}
+use Rattle.instructions.specs.Calls.{Call, run, interrupt, busRead, busWrite, busMac, evictLine, writeBackAll, reboot, powerCut, bufferOf, callFlaws, Machine, Result, cachedSetup, refusal, step, runFrom, asked, changed, replied, accepted, refused, called}
 use Rattle.instructions.proofs.Phases.{fetchPhase, dataPhase, phases}
 use Rattle.instructions.proofs.Sane.{flaws-sane, sane-flaws, sane-entered, sane-finished, sane-reset}
 use Rattle.demand3.specs.BoardLaws.{BoardLaws}
@@ -44,8 +44,8 @@ module _ (B : Board) (BL : BoardLaws B) (c : Cipher) (CL : CipherLaws c) (N C : 
     pub good : Good (B .placement) (BL .placement) N C (m .memory)
     pub sane : Sane (m .processor)
 
-  pub step-kept : (m : Machine Cached) → Kept m → Kept (record { processor = step B c (cachedHouse B c) m .out .processor; memory = step B c (cachedHouse B c) m .state })
-  unfolding step cachedHouse cached
+  pub step-kept : (m : Machine Cached) → Kept m → Kept (record { processor = step B c (cachedSetup B c) m .out .processor; memory = step B c (cachedSetup B c) m .state })
+  unfolding step cachedSetup cached
   step-kept m K =
       let M = length (m .memory .mem) in
       record {
@@ -59,20 +59,20 @@ module _ (B : Board) (BL : BoardLaws B) (c : Cipher) (CL : CipherLaws c) (N C : 
   chosen-kept true a b p q = p
   chosen-kept false a b p q = q
 
-  pub run-kept : (k i : ℕ) (m : Machine Cached) → Kept m → Kept (runFrom B c (cachedHouse B c) k i m .machine)
+  pub run-kept : (k i : ℕ) (m : Machine Cached) → Kept m → Kept (runFrom B c (cachedSetup B c) k i m .machine)
   unfolding runFrom
   run-kept zero i m K = K
   run-kept (suc k) i m K =
-      let s = step B c (cachedHouse B c) m in
+      let s = step B c (cachedSetup B c) m in
       let next : Machine Cached = record { processor = s .out .processor; memory = s .state } in
-      chosen-kept (eqb (s .out .fault) 0) (runFrom B c (cachedHouse B c) k (i + 1) next .machine) next (run-kept k (i + 1) next (step-kept m K)) (step-kept m K)
+      chosen-kept (eqb (s .out .fault) 0) (runFrom B c (cachedSetup B c) k (i + 1) next .machine) next (run-kept k (i + 1) next (step-kept m K)) (step-kept m K)
 
-  asked-kept : (q : Request) (r : Processor) (f : Reply → List ℕ) (s : Cached) → Fair N q → Sane r → Good (B .placement) (BL .placement) N C s → Kept (asked (cachedHouse B c) q r f s .machine)
-  unfolding asked cachedHouse cached
+  asked-kept : (q : Request) (r : Processor) (f : Reply → List ℕ) (s : Cached) → Fair N q → Sane r → Good (B .placement) (BL .placement) N C s → Kept (asked (cachedSetup B c) q r f s .machine)
+  unfolding asked cachedSetup cached
   asked-kept q r f s h S G = record { good = handle-good c CL (B .placement) (BL .placement) N C q s h G; sane = S }
 
-  accepted-kept : (call : Call) (m : Machine Cached) → Bytes (bufferOf call) → firstOf (callFlaws (length (m .memory .mem)) call) ≡ 0 → Kept m → Kept (accepted B c (cachedHouse B c) call m .machine)
-  unfolding accepted changed callFlaws bufferOf lineFlaws cachedHouse cached
+  accepted-kept : (call : Call) (m : Machine Cached) → Bytes (bufferOf call) → firstOf (callFlaws (length (m .memory .mem)) call) ≡ 0 → Kept m → Kept (accepted B c (cachedSetup B c) call m .machine)
+  unfolding accepted changed callFlaws bufferOf lineFlaws cachedSetup cached
   accepted-kept (run n) m b z K = run-kept n 0 m K
   accepted-kept interrupt m b z K = record { good = K .good; sane = sane-entered B c (m .memory .key) (m .processor) (K .sane) 32 }
   accepted-kept (busRead n x) m b z K =
@@ -92,7 +92,7 @@ module _ (B : Board) (BL : BoardLaws B) (c : Cipher) (CL : CipherLaws c) (N C : 
   called-kept : (call : Call) (m : Machine Cached) → Bytes (bufferOf call) → Kept m → Kept (withCache B c call m .machine)
   unfolding withCache called refused
   called-kept call m b K =
-      let n = refusal (cachedHouse B c) call m in
+      let n = refusal (cachedSetup B c) call m in
       by-test (eqb n 0)
       (λ h. rw h (accepted-kept call m b (none-refused B BL c CL N C slots call m (eqb-true n 0 h)) K))
       (λ h. rw h K)

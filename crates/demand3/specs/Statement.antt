@@ -21,7 +21,7 @@ use Rattle.instructions.specs.Fields.{opcode}
 use Rattle.instructions.specs.Wishes.{grant}
 use Rattle.instructions.specs.Step.{fetchWish}
 use Rattle.instructions.specs.Refusals.{sizeFine, cachedFlaws, recordFlaws}
-use Rattle.instructions.specs.Calls.{Call, bufferOf, Machine, Result, cachedHouse, uncachedHouse, step, runFrom, called}
+use Rattle.instructions.specs.Calls.{Call, bufferOf, Machine, Result, cachedSetup, uncachedSetup, step, runFrom, called}
 use Rattle.demand3.specs.BoardLaws.{BoardLaws}
 
 -- ---- the two machines
@@ -32,11 +32,11 @@ writtenBack B c s = asItStands (evictAll c (B .placement) s .state)
 
 -- a call on the machine with a cache
 unfoldable pub withCache : Board → Cipher → Call → Machine Cached → Result Cached
-withCache B c call s = called B c (cachedHouse B c) call s
+withCache B c call s = called B c (cachedSetup B c) call s
 
 -- the same call on the machine without a cache beside it; at a power cut it is given the memory and MAC area that the cut left of the other
 unfoldable pub withoutCache : Board → Cipher → Call → Machine Uncached → Result Cached → Result Uncached
-withoutCache B c call u s = called B c (uncachedHouse c (asItStands (s .machine .memory))) call u
+withoutCache B c call u s = called B c (uncachedSetup c (asItStands (s .machine .memory))) call u
 
 -- the two cannot be told apart: the answer, run's steps, the later bytes of the lent buffer, the whole record, and the DRK, memory and MAC
 -- area once everything is written back
@@ -121,15 +121,15 @@ fetched B c m = perform (cached c (B .placement)) (grant (fetchWish (length (m .
 
 -- no instruction but drk.set (opcode 32) fills or writes more than two lines
 abbrev pub TwoLines : Type 0
-TwoLines = (B : Board) (c : Cipher) (m : Machine Cached) → opcode (fetched B c m) ≢ 32 → Within 2 2 (step B c (cachedHouse B c) m .log)
+TwoLines = (B : Board) (c : Cipher) (m : Machine Cached) → opcode (fetched B c m) ≢ 32 → Within 2 2 (step B c (cachedSetup B c) m .log)
 
 -- an instruction fills at most two lines and writes at most two more than the cache has slots; so a run of n has at most n times that
 abbrev pub StepBound : Type 1
 StepBound =
     (B : Board) → BoardLaws B → (c : Cipher) → CipherLaws c → (m : Machine Cached) → Acceptable B m
-    → Within 2 (length (m .memory .dir) + 2) (step B c (cachedHouse B c) m .log)
+    → Within 2 (length (m .memory .dir) + 2) (step B c (cachedSetup B c) m .log)
 
 abbrev pub RunBound : Type 1
 RunBound =
     (B : Board) → BoardLaws B → (c : Cipher) → CipherLaws c → (n : ℕ) (m : Machine Cached) → Acceptable B m
-    → Within (n * 2) (n * (length (m .memory .dir) + 2)) (runFrom B c (cachedHouse B c) n 0 m .log)
+    → Within (n * 2) (n * (length (m .memory .dir) + 2)) (runFrom B c (cachedSetup B c) n 0 m .log)

@@ -21,7 +21,7 @@ use Rattle.instructions.specs.Suspend.{suspended, entered, resumes, rest
 use Rattle.instructions.specs.Faults.{fetchFault, selListed, hasAddress, decodeFault, lateFault}
 use Rattle.instructions.specs.Wishes.{Wish, idle, Got, gotFrom, grant}
 use Rattle.instructions.specs.Step.{Stepped, fetchWish, knownFault, dataWish, finished, instruction}
-use Rattle.instructions.specs.Calls.{uncachedHouse, step}
+use Rattle.instructions.specs.Calls.{uncachedSetup, step}
 use Rattle.instructions.proofs.Phases.{fetchPhase, dataPhase, phases}
 use Rattle.instructions.specs.Marked.{encoded, thread, stepOn, holdingWord, stepOf, Marked}
 
@@ -35,7 +35,7 @@ added c key mode = finished documentBoard c key 256 (thread mode false 44 0 0) a
 
 -- a step at pc 44 whose fetch gives that add is that add
 step-added : (c : Cipher) (u : Uncached) (mode : ℕ) → length (u .mem) ≡ 256 → fetchPhase (uncached c u) documentBoard c (u .key) 256 (thread mode false 44 0 0) u .out ≡ addGot → dataWish documentBoard 256 (thread mode false 44 0 0) addGot ≡ idle → stepOn c (thread mode false 44 0 0) u ≡ added c (u .key) mode
-unfolding stepOn step uncachedHouse uncached dataPhase added perform grant
+unfolding stepOn step uncachedSetup uncached dataPhase added perform grant
 step-added c u mode e f d =
     let r = thread mode false 44 0 0 in
     let M = uncached c u in
@@ -56,7 +56,7 @@ unfolding documentBoard modulus opcodeTable reg withReg active opcode fieldA fie
 plain-add c u e f = ap (λ (x : Stepped). x .processor .pc) (step-added c u 0 e (rw f) refl)
 
 pub marked : (c : Cipher) → Marked c
-unfolding leadingZeros zeros same partAt putAt little littleBytes lineAt putLine macAt putMac seen stored signed passes perform andThen uncachedHandle uncached documentBoard modulus opcodeTable reg withReg active opcode fieldA fieldB fieldC imm sel exists needsActive Ra Rb Rc address hasValue value nextMode taken target behind nextPc executed entered fetchFault selListed hasAddress decodeFault lateFault gotFrom grant fetchWish knownFault dataWish finished instruction uncachedHouse step encoded thread stepOn holdingWord stepOf
+unfolding leadingZeros zeros same partAt putAt little littleBytes lineAt putLine macAt putMac seen stored signed passes perform andThen uncachedHandle uncached documentBoard modulus opcodeTable reg withReg active opcode fieldA fieldB fieldC imm sel exists needsActive Ra Rb Rc address hasValue value nextMode taken target behind nextPc executed entered fetchFault selListed hasAddress decodeFault lateFault gotFrom grant fetchWish knownFault dataWish finished instruction uncachedSetup step encoded thread stepOn holdingWord stepOf
 marked c =
     record {
       p1 = refl;

@@ -20,7 +20,7 @@ use Rattle.instructions.specs.Fields.{opcode}
 use Rattle.instructions.specs.Operations.{nextMode, taken, target, behind, nextPc, executed}
 use Rattle.instructions.specs.Suspend.{hashOf, xored, hidden, suspended, entered, resumes, restored, hashRight, returned}
 use Rattle.instructions.specs.Step.{Stepped}
-use Rattle.instructions.specs.Calls.{Machine, Result, House, step, runFrom}
+use Rattle.instructions.specs.Calls.{Machine, Result, Setup, step, runFrom}
 
 -- what was hidden by a key stream comes back by it
 xored-undo : (k : ℕ) (stream : List ℕ) (i : ℕ) (l : List ℕ) → xored k stream i (xored k stream i l) ≡ l
@@ -68,7 +68,7 @@ end-at-44 B c key r w loaded e a p =
     rw e (ap₂ (λ (t : Bool) (o : ℕ). if ((t || false) && leb 44 o) ((r .pc / 64 * 64 + 64) % modulus B) ((r .pc + 4) % modulus B)) a p)
 
 -- a run goes on with the next instruction after each step without fault, and stops behind a step that faults
-module _ {S : Type 0} (B : Board) (c : Cipher) (H : House S) (k i : ℕ) (m : Machine S) where
+module _ {S : Type 0} (B : Board) (c : Cipher) (H : Setup S) (k i : ℕ) (m : Machine S) where
   abbrev after : Machine S
   after = record { processor = step B c H m .out .processor; memory = step B c H m .state }
 

@@ -52,17 +52,17 @@ unfoldable pub counts : {S : Type 0} → Result S → Counts
 counts r = countsOf (r .log)
 
 -- a memory for the host's calls: how it works, and what of it is refused
-pub record House (S : Type 0) : Type 0 where
+pub record Setup (S : Type 0) : Type 0 where
   pub memory : Memory S
   pub flaws : S → List (Bool × ℕ)
 
 -- the machine with a cache
-unfoldable pub cachedHouse : Board → Cipher → House Cached
-cachedHouse B c = record { memory = cached c (B .placement); flaws = cachedFlaws B }
+unfoldable pub cachedSetup : Board → Cipher → Setup Cached
+cachedSetup B c = record { memory = cached c (B .placement); flaws = cachedFlaws B }
 
 -- the machine without a cache; at a power cut it is given what the cut left of the machine beside it
-unfoldable pub uncachedHouse : Cipher → Uncached → House Uncached
-uncachedHouse c left = record { memory = uncached c left; flaws = uncachedFlaws }
+unfoldable pub uncachedSetup : Cipher → Uncached → Setup Uncached
+uncachedSetup c left = record { memory = uncached c left; flaws = uncachedFlaws }
 
 -- the buffer that a call is lent
 unfoldable pub bufferOf : Call → List ℕ
@@ -89,7 +89,7 @@ callFlaws M reboot = []
 callFlaws M powerCut = []
 
 -- the lowest number that applies to the call, and 0 where none does
-unfoldable pub refusal : {S : Type 0} → House S → Call → Machine S → ℕ
+unfoldable pub refusal : {S : Type 0} → Setup S → Call → Machine S → ℕ
 refusal H call m =
     orElse (firstOf (H .flaws (m .memory)))
     (orElse (firstOf (recordFlaws (m .processor))) (firstOf (callFlaws (H .memory .size (m .memory)) call)))
@@ -103,7 +103,7 @@ unfoldable pub changed : {S : Type 0} → Processor → S → Result S
 changed r s = record { answer = 0; steps = 0; buffer = []; machine = record { processor = r; memory = s }; log = [] }
 
 -- a call that is one request, after which the record is as given; the buffer gets what the reply makes of it
-unfoldable pub asked : {S : Type 0} → House S → Request → Processor → (Reply → List ℕ) → S → Result S
+unfoldable pub asked : {S : Type 0} → Setup S → Request → Processor → (Reply → List ℕ) → S → Result S
 asked H q r buffer s =
     let h = H .memory .handle q s in
     record { answer = 0; steps = 0; buffer = buffer (h .reply); machine = record { processor = r; memory = h .state }; log = h .log }
@@ -113,7 +113,7 @@ unfoldable pub replied : List ℕ → Reply → List ℕ
 replied x none = x
 replied x (some line) = line
 
-module _ {S : Type 0} (B : Board) (c : Cipher) (H : House S) where
+module _ {S : Type 0} (B : Board) (c : Cipher) (H : Setup S) where
   -- one instruction on the machine
   unfoldable pub step : Machine S → Ran Stepped S
   step m = perform (H .memory) (instruction B c (H .memory .key (m .memory)) (H .memory .size (m .memory)) (m .processor)) (m .memory)

@@ -15,7 +15,7 @@ use Rattle.instructions.specs.Board.{documentBoard}
 use Rattle.instructions.specs.Record.{Processor, reg}
 use Rattle.instructions.specs.Fields.{opcode, fieldA, fieldB, fieldC}
 use Rattle.instructions.specs.Step.{Stepped}
-use Rattle.instructions.specs.Calls.{Machine, uncachedHouse, step}
+use Rattle.instructions.specs.Calls.{Machine, uncachedSetup, step}
 
 -- an instruction word from its opcode, its registers a, b, c and its lowest bits
 unfoldable pub encoded : ℕ → ℕ → ℕ → ℕ → ℕ → ℕ
@@ -36,7 +36,7 @@ thread mode lock pc x y =
 
 -- one step of a record on a memory
 unfoldable pub stepOn : Cipher → Processor → Uncached → Stepped
-stepOn c r u = step documentBoard c (uncachedHouse c u) (record { processor = r; memory = u }) .out
+stepOn c r u = step documentBoard c (uncachedSetup c u) (record { processor = r; memory = u }) .out
 
 -- 256 bytes of memory, all zero but an instruction word at address 0
 unfoldable pub holdingWord : ℕ → Uncached
