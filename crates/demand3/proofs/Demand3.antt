@@ -20,9 +20,11 @@ use Rattle.instructions.specs.Board.{Board}
 use Rattle.instructions.specs.Record.{Processor}
 use Rattle.instructions.specs.Refusals.{sizeFine, memoryFlaws, cacheFlaws, cachedFlaws}
 use Rattle.instructions.specs.Calls.{Call, Machine, Result, bufferOf}
-use Rattle.demand3.specs.BoardLaws.{BoardLaws}
-use Rattle.demand3.specs.Statement.{writtenBack, withCache, withoutCache, SameOutside, AlwaysSame, ended, next, LentBytes, no-more, bytes-then, Startable, Agreeing, Demand3, CallsKeepAgreement}
-use Rattle.demand3.proofs.Lent.{lent-good}
+use Rattle.sound.specs.BoardLaws.{BoardLaws}
+use Rattle.demand3.specs.Statement.{writtenBack, withCache, withoutCache, SameOutside, AlwaysSame, ended, next, LentBytes, no-more, bytes-then, Startable, Agreeing, Demand3, CallsKeepAgreement, CallsKeepAcceptable, TwoLines, StepBound, RunBound}
+use Rattle.sound.proofs.Lent.{lent-good}
+use Rattle.sound.proofs.Kept.{calls-keep-acceptable}
+use Rattle.sound.proofs.Bounds.{two-lines, step-bound, run-bound}
 use Rattle.demand3.proofs.Calls.{ResultsAlike, called-alike}
 
 module _ (B : Board) (BL : BoardLaws B) (c : Cipher) (CL : CipherLaws c) (N C : ℕ) (slots : B .slotsFine C ≡ true) where
@@ -71,3 +73,17 @@ demand3 B BL c CL s Z r calls bs =
 -- every call keeps the agreement
 pub calls-keep-agreement : CallsKeepAgreement
 calls-keep-agreement B BL c CL N C slots call u s b G = called-alike B BL c CL N C slots call u s b G .machines
+
+-- what the calls keep, and the bounds on the counts
+pub acceptable-kept : CallsKeepAcceptable
+unfolding withCache
+acceptable-kept = calls-keep-acceptable
+
+pub two-lines-bound : TwoLines
+two-lines-bound = two-lines
+
+pub one-step-bound : StepBound
+one-step-bound = step-bound
+
+pub whole-run-bound : RunBound
+whole-run-bound = run-bound

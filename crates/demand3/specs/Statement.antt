@@ -22,7 +22,8 @@ use Rattle.instructions.specs.Wishes.{grant}
 use Rattle.instructions.specs.Step.{fetchWish}
 use Rattle.instructions.specs.Refusals.{sizeFine, cachedFlaws, recordFlaws}
 use Rattle.instructions.specs.Calls.{Call, bufferOf, Machine, Result, cachedSetup, uncachedSetup, step, runFrom, called}
-use Rattle.demand3.specs.BoardLaws.{BoardLaws}
+use Rattle.sound.specs.BoardLaws.{BoardLaws}
+use Rattle.sound.specs.Acceptable.{Acceptable, fetched}
 
 -- ---- the two machines
 
@@ -102,11 +103,6 @@ CallsKeepAgreement =
     → (call : Call) (u : Machine Uncached) (s : Machine Cached) → Bytes (bufferOf call) → Agreeing B BL c N C u s
     → Agreeing B BL c N C (withoutCache B c call u (withCache B c call s) .machine) (withCache B c call s .machine)
 
--- a machine to which none of refusals 101 to 105 applies
-pub record Acceptable (B : Board) (m : Machine Cached) : Type 0 where
-  pub memory : firstOf (cachedFlaws B (m .memory)) ≡ 0
-  pub processor : firstOf (recordFlaws (m .processor)) ≡ 0
-
 -- every call leaves an acceptable machine acceptable, whatever its slots hold
 abbrev pub CallsKeepAcceptable : Type 1
 CallsKeepAcceptable =
@@ -114,10 +110,6 @@ CallsKeepAcceptable =
     → Acceptable B (withCache B c call m .machine)
 
 -- ---- 3: bounds on the counts
-
--- the instruction word that a step fetches, 0 where it fetches none
-unfoldable pub fetched : Board → Cipher → Machine Cached → ℕ
-fetched B c m = perform (cached c (B .placement)) (grant (fetchWish (length (m .memory .mem)) (m .processor))) (m .memory) .out .number
 
 -- no instruction but drk.set (opcode 32) fills or writes more than two lines
 abbrev pub TwoLines : Type 0

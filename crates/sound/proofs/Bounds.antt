@@ -34,11 +34,11 @@ use Rattle.instructions.specs.Faults.{fetchFault}
 use Rattle.instructions.specs.Calls.{Machine, Result, cachedSetup, step, runFrom}
 use Rattle.instructions.proofs.Phases.{fetchPhase, dataPhase, phases}
 use Rattle.instructions.proofs.Sane.{flaws-sane}
-use Rattle.demand3.specs.BoardLaws.{BoardLaws}
-use Rattle.demand3.specs.Statement.{fetched, Acceptable, TwoLines, StepBound, RunBound}
-use Rattle.demand3.proofs.Sound.{FairWish, fetch-fair, grant-sound}
-use Rattle.demand3.proofs.Lent.{lent-good}
-use Rattle.demand3.proofs.Kept.{Kept, step-kept}
+use Rattle.sound.specs.BoardLaws.{BoardLaws}
+use Rattle.sound.specs.Acceptable.{Acceptable, fetched}
+use Rattle.sound.proofs.Programs.{FairWish, fetch-fair, grant-sound}
+use Rattle.sound.proofs.Lent.{lent-good}
+use Rattle.sound.proofs.Kept.{Kept, step-kept}
 
 -- does the wish take another key?
 takesKey : Wish → Bool
@@ -94,7 +94,7 @@ data-no-key B M r got d =
     (word secureData (address B r w) (B .wordBytes) false 0) (word secureData (address B r w) (B .wordBytes) true (Ra r w)) refl refl refl refl))
     (λ h. rw h)
 
-pub two-lines : TwoLines
+pub two-lines : (B : Board) (c : Cipher) (m : Machine Cached) → opcode (fetched B c m) ≢ 32 → Within 2 2 (step B c (cachedSetup B c) m .log)
 unfolding fetched step cachedSetup cached fetchPhase dataPhase
 two-lines B c m d =
     let P = B .placement in
@@ -143,10 +143,10 @@ module _ (B : Board) (BL : BoardLaws B) (c : Cipher) (CL : CipherLaws c) (N C : 
 in-order : (B : Board) (BL : BoardLaws B) (c : Cipher) (CL : CipherLaws c) (m : Machine Cached) (A : Acceptable B m) → Kept B BL c CL (length (m .memory .mem) / 64) (length (m .memory .dir)) (lent-good B BL (m .memory) (A .memory) .slots) m
 in-order B BL c CL m A = record { good = lent-good B BL (m .memory) (A .memory) .good; sane = flaws-sane (m .processor) (A .processor) }
 
-pub step-bound : StepBound
+pub step-bound : (B : Board) → BoardLaws B → (c : Cipher) → CipherLaws c → (m : Machine Cached) → Acceptable B m → Within 2 (length (m .memory .dir) + 2) (step B c (cachedSetup B c) m .log)
 step-bound B BL c CL m A =
     step-within B BL c CL (length (m .memory .mem) / 64) (length (m .memory .dir)) (lent-good B BL (m .memory) (A .memory) .slots) m (in-order B BL c CL m A)
 
-pub run-bound : RunBound
+pub run-bound : (B : Board) → BoardLaws B → (c : Cipher) → CipherLaws c → (n : ℕ) (m : Machine Cached) → Acceptable B m → Within (n * 2) (n * (length (m .memory .dir) + 2)) (runFrom B c (cachedSetup B c) n 0 m .log)
 run-bound B BL c CL n m A =
     run-within B BL c CL (length (m .memory .mem) / 64) (length (m .memory .dir)) (lent-good B BL (m .memory) (A .memory) .slots) n 0 m (in-order B BL c CL m A)

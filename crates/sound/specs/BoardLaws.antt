@@ -1,4 +1,4 @@
--- What a board must satisfy for demand 3: its placement is lawful, its entry check is for orderly directories, and whole words make a line.
+-- What a board must satisfy: its placement is lawful, its entry check is for orderly directories, and whole words make a line.
 use Prim.Native.Nat.{ℕ, _*_, _≤_}
 use mathlib.Core.Path.{_≡_}
 use mathlib.Core.Bool.{true}

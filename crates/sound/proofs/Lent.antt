@@ -13,8 +13,8 @@ use Rattle.keeps.specs.Good.{Good}
 use Rattle.instructions.specs.Rules.{firstOf}
 use Rattle.instructions.specs.Board.{Board}
 use Rattle.instructions.specs.Refusals.{sizeFine, memoryFlaws, cacheFlaws, cachedFlaws}
-use Rattle.demand3.specs.BoardLaws.{BoardLaws}
-use Rattle.demand3.proofs.Sound.{none-first}
+use Rattle.sound.specs.BoardLaws.{BoardLaws}
+use Rattle.sound.proofs.Programs.{none-first}
 
 module _ (B : Board) (BL : BoardLaws B) where
   -- what was lent: its size is one of document 01's, its slots are right in number, and it is good
