@@ -1,20 +1,19 @@
 -- Every call of the host is answered alike by the two machines, and leaves machines that agree.
-use Prim.Native.Nat.{ℕ, zero, suc, _+_, _*_, _/_, _<_, _≤_}
+use Prim.Native.Nat.{ℕ, zero, suc, _+_, _*_, _/_}
 use native.Mathlib.Omega.{arith}
 use mathlib.Core.Path.{_≡_, refl, sym, ap, ap₂, _∙_, subst}
-use mathlib.Core.Bool.{Bool, true, false, not, _&&_}
-use mathlib.Core.List.{List, [], _∷_, _++_}
-use mathlib.Core.Option.{none, some}
+use mathlib.Core.Bool.{Bool, true, false}
+use mathlib.Core.List.{List, []}
 use lib.ListN.{length}
-use lib.Dec.{eqb, leb}
-use borrow.Author.Tests.{eqb-true, eqb-false, eq-eqb, leb-false, not-false}
+use lib.Dec.{eqb}
+use borrow.Author.Tests.{eqb-true, eq-eqb}
 use Rattle.lists.specs.If.{if}
 use Rattle.lists.specs.Bytes.{Bytes}
 use Rattle.lists.proofs.Cases.{by-test}
 use Rattle.model.specs.Cipher.{Cipher}
-use Rattle.model.specs.CipherLaws.{Sized, CipherLaws}
+use Rattle.model.specs.CipherLaws.{CipherLaws}
 use Rattle.model.specs.Log.{Note}
-use Rattle.model.specs.Requests.{Request, evict, writeBack, Reply, Prog, Memory, Ran, perform}
+use Rattle.model.specs.Requests.{Request, evict, writeBack, Reply, Prog, perform}
 use Rattle.model.specs.Uncached.{Uncached, uncachedHandle, uncached}
 use Rattle.model.specs.Cached.{Cached, cachedHandle, cached, loseAll, asItStands}
 use Rattle.agree.specs.Agree.{Agree}
@@ -27,7 +26,7 @@ use Rattle.instructions.specs.Record.{Processor, reset}
 use Rattle.instructions.specs.Suspend.{entered}
 use Rattle.instructions.specs.Step.{Stepped, instruction}
 use Rattle.instructions.specs.Refusals.{orElse, memoryFlaws, cacheFlaws, cachedFlaws, uncachedFlaws, recordFlaws, lineFlaws, bufferFlaws}
-use Rattle.instructions.specs.Calls.{Call, run, interrupt, busRead, busWrite, busMac, evictLine, writeBackAll, reboot, powerCut, bufferOf, callFlaws, Machine, Result, Setup, cachedSetup, uncachedSetup, refusal, step, runFrom, asked, changed, replied, accepted, refused, called}
+use Rattle.instructions.specs.Calls.{Call, run, interrupt, busRead, busWrite, busMac, evictLine, writeBackAll, reboot, powerCut, bufferOf, callFlaws, Machine, Result, cachedSetup, uncachedSetup, refusal, step, runFrom, asked, changed, replied, accepted, refused, called}
 use Rattle.sound.specs.BoardLaws.{BoardLaws}
 use Rattle.demand3.specs.Statement.{withCache, withoutCache, Agreeing}
 use Rattle.sound.proofs.Programs.{instruction-sound}

@@ -1,6 +1,6 @@
 -- The theorems as the customer reads them; their proofs are elsewhere. Two machines stand side by side, one with a cache and one without.
 -- What a reader must believe: the definitions of `instructions` (the machine) and of `model` (its two memories), and this page.
-use Prim.Native.Nat.{ℕ, _+_, _*_, _/_, _≤_, _<_}
+use Prim.Native.Nat.{ℕ, _+_, _*_, _/_, _≤_}
 use mathlib.Core.Path.{_≡_}
 use mathlib.Core.Logic.{_≢_}
 use mathlib.Core.Bool.{true}
@@ -9,18 +9,15 @@ use lib.ListN.{length}
 use Rattle.lists.specs.Bytes.{Bytes, zeros}
 use Rattle.model.specs.Cipher.{Cipher}
 use Rattle.model.specs.CipherLaws.{Sized, CipherLaws}
-use Rattle.model.specs.Requests.{perform}
 use Rattle.model.specs.Uncached.{Uncached}
-use Rattle.model.specs.Cached.{Cached, evictAll, asItStands, cached}
+use Rattle.model.specs.Cached.{Cached, evictAll, asItStands}
 use Rattle.keeps.specs.Within.{Within}
 use Rattle.agree.specs.Agree.{Agree, AllEmpty}
 use Rattle.instructions.specs.Rules.{firstOf}
 use Rattle.instructions.specs.Board.{Board, documentBoard}
 use Rattle.instructions.specs.Record.{Processor, reset}
 use Rattle.instructions.specs.Fields.{opcode}
-use Rattle.instructions.specs.Wishes.{grant}
-use Rattle.instructions.specs.Step.{fetchWish}
-use Rattle.instructions.specs.Refusals.{sizeFine, cachedFlaws, recordFlaws}
+use Rattle.instructions.specs.Refusals.{sizeFine, cachedFlaws}
 use Rattle.instructions.specs.Calls.{Call, bufferOf, Machine, Result, cachedSetup, uncachedSetup, step, runFrom, called}
 use Rattle.sound.specs.BoardLaws.{BoardLaws}
 use Rattle.sound.specs.Acceptable.{Acceptable, fetched}

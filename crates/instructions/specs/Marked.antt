@@ -2,7 +2,7 @@
 use Prim.Native.Nat.{ℕ, _+_, _*_, _-_, _^_}
 use mathlib.Core.Path.{_≡_}
 use mathlib.Core.Bool.{Bool, true, false}
-use mathlib.Core.List.{List, [], _∷_, _++_}
+use mathlib.Core.List.{_∷_}
 use lib.ListN.{length}
 use Rattle.lists.specs.Bytes.{zeros}
 use Rattle.lists.specs.Parts.{partAt, putAt}
@@ -15,7 +15,7 @@ use Rattle.instructions.specs.Board.{documentBoard}
 use Rattle.instructions.specs.Record.{Processor, reg}
 use Rattle.instructions.specs.Fields.{opcode, fieldA, fieldB, fieldC}
 use Rattle.instructions.specs.Step.{Stepped}
-use Rattle.instructions.specs.Calls.{Machine, uncachedSetup, step}
+use Rattle.instructions.specs.Calls.{uncachedSetup, step}
 
 -- an instruction word from its opcode, its registers a, b, c and its lowest bits
 unfoldable pub encoded : ℕ → ℕ → ℕ → ℕ → ℕ → ℕ

@@ -7,7 +7,6 @@ use lib.Dec.{eqb, leb, ltb}
 use Rattle.lists.specs.If.{if}
 use Rattle.model.specs.Uncached.{Uncached}
 use Rattle.model.specs.Cached.{Cached}
-use Rattle.instructions.specs.Rules.{firstOf}
 use Rattle.instructions.specs.Board.{Board}
 use Rattle.instructions.specs.Record.{Processor, reg}
 

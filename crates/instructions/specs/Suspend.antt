@@ -1,5 +1,5 @@
 -- Suspend and rfi: the registers are hashed and hidden when a fault or an interrupt meets active mode, and come back only unchanged.
-use Prim.Native.Nat.{ℕ, zero, suc, _+_, _*_}
+use Prim.Native.Nat.{ℕ, _+_}
 use mathlib.Core.Bool.{Bool, _&&_}
 use mathlib.Core.List.{List, [], _∷_, _++_}
 use lib.ListN.{drop}

@@ -1,13 +1,13 @@
 -- What is read from a list after a part of it was replaced, over the place and the size of the part.
-use Prim.Native.Nat.{ℕ, zero, suc, _+_, _-_, _*_, _≤_, _<_, min}
-use native.Mathlib.Nat.{suc-mul, zero-mul, zero-add, mul-le-mul-right, le-refl, le-of-suc-le-suc, add-sub-of-le}
+use Prim.Native.Nat.{ℕ, zero, suc, _+_, _-_, _*_, _≤_, _<_}
+use native.Mathlib.Nat.{suc-mul, zero-mul, mul-le-mul-right, add-sub-of-le}
 use native.Mathlib.Omega.{arith}
 use native.Mathlib.Decide.{decLt}
 use mathlib.Core.Path.{_≡_, refl, sym, ap, ap₂, _∙_, subst}
 use mathlib.Core.Logic.{_≢_}
 use mathlib.Core.List.{List, [], _∷_, _++_, append-assoc}
-use lib.ListN.{length, take, drop, length-append, length-take, length-drop, take-append-drop, drop-of-length-le}
-use lib.Seq.{take-at, drop-at, take-append-le, drop-append-le, drop-drop, take-take, take-all, take-nil, drop-append-add, take-add}
+use lib.ListN.{length, take, drop, length-append, length-take, length-drop, take-append-drop}
+use lib.Seq.{take-at, drop-at, take-append-le, drop-append-le, drop-drop, take-take, drop-append-add}
 use Rattle.lists.specs.Parts.{partAt, putAt}
 
 module _ {ℓ} {A : Type ℓ} where

@@ -6,7 +6,7 @@ use mathlib.Core.Bool.{Bool, true, false}
 use mathlib.Core.List.{List}
 use lib.ListN.{length}
 use Rattle.model.specs.Tags.{Tag, secureInstruction}
-use Rattle.model.specs.Placement.{Entry, Placement, empty, holding}
+use Rattle.model.specs.Placement.{Entry, Placement, holding}
 
 -- a line of tag Secure Instruction is never dirty
 pub record Tame (tag : Tag) (dirty : Bool) : Type 0 where

@@ -1,11 +1,11 @@
 -- No instruction but drk.set fills or writes more than two lines; and what any instruction and any run may count.
-use Prim.Native.Nat.{ℕ, zero, suc, _+_, _*_, _/_, _%_, _≤_}
+use Prim.Native.Nat.{ℕ, zero, suc, _+_, _*_, _/_, _%_}
 use native.Mathlib.Nat.{suc-mul}
 use native.Mathlib.Omega.{arith}
-use mathlib.Core.Path.{_≡_, refl, sym, ap, _∙_, subst}
+use mathlib.Core.Path.{_≡_, refl}
 use mathlib.Core.Logic.{_≢_}
 use mathlib.Core.Bool.{Bool, true, false, true≢false}
-use mathlib.Core.List.{List, [], _∷_, _++_}
+use mathlib.Core.List.{List, [], _++_}
 use lib.ListN.{length}
 use lib.Dec.{eqb}
 use borrow.Author.Tests.{ne-eqb}
@@ -13,7 +13,7 @@ use Rattle.lists.specs.If.{if}
 use Rattle.lists.specs.Parts.{putAt}
 use Rattle.lists.specs.Words.{littleBytes}
 use Rattle.lists.proofs.Cases.{by-test}
-use Rattle.model.specs.Tags.{Tag, noTag, secureData}
+use Rattle.model.specs.Tags.{noTag, secureData}
 use Rattle.model.specs.Cipher.{Cipher}
 use Rattle.model.specs.CipherLaws.{CipherLaws}
 use Rattle.model.specs.Log.{Note}
@@ -29,14 +29,14 @@ use Rattle.instructions.specs.Record.{Processor}
 use Rattle.instructions.specs.Fields.{opcode}
 use Rattle.instructions.specs.Operations.{Ra, address, keyFrom}
 use Rattle.instructions.specs.Wishes.{Wish, idle, word, newKey, Got, grant}
-use Rattle.instructions.specs.Step.{fetchWish, knownFault, dataWish, finished, instruction}
+use Rattle.instructions.specs.Step.{fetchWish, knownFault, dataWish}
 use Rattle.instructions.specs.Faults.{fetchFault}
-use Rattle.instructions.specs.Calls.{Machine, Result, cachedSetup, step, runFrom}
+use Rattle.instructions.specs.Calls.{Machine, cachedSetup, step, runFrom}
 use Rattle.instructions.proofs.Phases.{fetchPhase, dataPhase, phases}
 use Rattle.instructions.proofs.Sane.{flaws-sane}
 use Rattle.sound.specs.BoardLaws.{BoardLaws}
 use Rattle.sound.specs.Acceptable.{Acceptable, fetched}
-use Rattle.sound.proofs.Programs.{FairWish, fetch-fair, grant-sound}
+use Rattle.sound.proofs.Programs.{fetch-fair, grant-sound}
 use Rattle.sound.proofs.Lent.{lent-good}
 use Rattle.sound.proofs.Kept.{Kept, step-kept}
 

@@ -1,14 +1,12 @@
 -- The board of document 01 is lawful.
-use Prim.Native.Nat.{ℕ}
-use mathlib.Core.Path.{_≡_, refl}
-use mathlib.Core.List.{List}
+use mathlib.Core.Path.{refl}
 use lib.ListN.{length}
 use lib.Dec.{leb}
 use borrow.Author.Tests.{leb-true}
 use Rattle.lists.proofs.Cases.{both-hold}
 use Rattle.directory.proofs.DirectLaws.{direct-laws}
 use Rattle.directory.proofs.Scan.{scan-orderly, orderly-scan}
-use Rattle.instructions.specs.Board.{Board, documentBoard}
+use Rattle.instructions.specs.Board.{documentBoard}
 use Rattle.sound.specs.BoardLaws.{BoardLaws}
 
 unfoldable pub document-laws : BoardLaws documentBoard

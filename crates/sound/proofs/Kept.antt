@@ -1,9 +1,8 @@
 -- Every call leaves an acceptable machine acceptable, whatever its slots hold.
-use Prim.Native.Nat.{ℕ, zero, suc, _+_, _*_, _/_, _<_, _≤_}
-use native.Mathlib.Omega.{arith}
-use mathlib.Core.Path.{_≡_, refl, sym, ap, _∙_, subst}
+use Prim.Native.Nat.{ℕ, zero, suc, _+_, _/_}
+use mathlib.Core.Path.{_≡_}
 use mathlib.Core.Bool.{Bool, true, false}
-use mathlib.Core.List.{List, [], _∷_, _++_}
+use mathlib.Core.List.{List, []}
 use lib.ListN.{length}
 use lib.Dec.{eqb}
 use borrow.Author.Tests.{eqb-true}
@@ -12,19 +11,17 @@ use Rattle.lists.specs.Bytes.{Bytes}
 use Rattle.lists.proofs.Cases.{by-test}
 use Rattle.model.specs.Cipher.{Cipher}
 use Rattle.model.specs.CipherLaws.{CipherLaws}
-use Rattle.model.specs.Requests.{Request, evict, writeBack, Reply, Prog, ret, andThen, Ran, Memory, perform}
-use Rattle.model.specs.Cached.{Cached, cachedHandle, cached, loseAll}
+use Rattle.model.specs.Requests.{Request, evict, writeBack, Reply, Memory, perform}
+use Rattle.model.specs.Cached.{Cached, cached}
 use Rattle.keeps.specs.Good.{Good}
 use Rattle.keeps.specs.Sound.{Fair, fair-evict, fair-busRead, fair-busWrite, fair-busMac, fair-writeBack}
 use Rattle.keeps.proofs.Requests.{handle-good, perform-good, cut-good}
 use Rattle.instructions.specs.Rules.{firstOf}
 use Rattle.instructions.specs.Board.{Board}
 use Rattle.instructions.specs.Record.{Processor, reset, Sane}
-use Rattle.instructions.specs.Suspend.{entered}
-use Rattle.instructions.specs.Wishes.{Got, grant}
-use Rattle.instructions.specs.Step.{Stepped, fetchWish, dataWish, finished, instruction}
-use Rattle.instructions.specs.Refusals.{cachedFlaws, recordFlaws, sizeFine, lineFlaws, bufferFlaws}
-use Rattle.instructions.specs.Calls.{Call, run, interrupt, busRead, busWrite, busMac, evictLine, writeBackAll, reboot, powerCut, bufferOf, callFlaws, Machine, Result, cachedSetup, refusal, step, runFrom, asked, changed, replied, accepted, refused, called}
+use Rattle.instructions.specs.Step.{instruction}
+use Rattle.instructions.specs.Refusals.{lineFlaws, bufferFlaws}
+use Rattle.instructions.specs.Calls.{Call, run, interrupt, busRead, busWrite, busMac, evictLine, writeBackAll, reboot, powerCut, bufferOf, callFlaws, Machine, cachedSetup, refusal, step, runFrom, asked, changed, replied, accepted, refused, called}
 use Rattle.instructions.proofs.Phases.{fetchPhase, dataPhase, phases}
 use Rattle.instructions.proofs.Sane.{flaws-sane, sane-flaws, sane-entered, sane-finished, sane-reset}
 use Rattle.sound.specs.BoardLaws.{BoardLaws}
