@@ -13,10 +13,10 @@ use Rattle.agree.proofs.Everything.{all-agrees, all-empties, same-mem, same-mac
 use Rattle.instructions.specs.Board.{Board}
 use Rattle.instructions.specs.Calls.{Call, Machine, Result}
 use Rattle.sound.specs.BoardLaws.{BoardLaws}
-use Rattle.demand3.specs.Statement.{writtenBack, withCache, withoutCache, SameOutside, AlwaysSame, ended, next, LentBytes, no-more, bytes-then, Agreeing, Demand3, CallsKeepAgreement, CallsKeepAcceptable, TwoLines, StepBound, RunBound}
+use Rattle.demand3.specs.Statement.{writtenBack, withCache, withoutCache, SameOutside, AlwaysSame, ended, next, LentBytes, no-more, bytes-then, Agreeing, Demand3, CallsKeepAgreement, CallsKeepAcceptable, TwoLines, StepBound, RunBound, CallBound}
 use Rattle.sound.proofs.Lent.{lent-good}
 use Rattle.sound.proofs.Kept.{calls-keep-acceptable}
-use Rattle.sound.proofs.Bounds.{two-lines, step-bound, run-bound}
+use Rattle.sound.proofs.Bounds.{two-lines, step-bound, run-bound, call-bound}
 use Rattle.demand3.proofs.Calls.{ResultsAlike, called-alike}
 
 module _ (B : Board) (BL : BoardLaws B) (c : Cipher) (CL : CipherLaws c) (N C : ℕ) (slots : B .slotsFine C ≡ true) where
@@ -79,3 +79,7 @@ one-step-bound = step-bound
 
 pub whole-run-bound : RunBound
 whole-run-bound = run-bound
+
+pub any-call-bound : CallBound
+unfolding withCache
+any-call-bound = call-bound

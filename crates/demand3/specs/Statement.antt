@@ -122,3 +122,9 @@ abbrev pub RunBound : Type 1
 RunBound =
     (B : Board) → BoardLaws B → (c : Cipher) → CipherLaws c → (n : ℕ) (m : Machine Cached) → Acceptable B m
     → Within (n * 2) (n * (length (m .memory .dir) + 2)) (runFrom B c (cachedSetup B c) n 0 m .log)
+
+-- no call counts more than this
+abbrev pub CallBound : Type 1
+CallBound =
+    (B : Board) → BoardLaws B → (c : Cipher) → CipherLaws c → (m : Machine Cached) → Acceptable B m → (call : Call)
+    → Within 20000 (10000 * (length (m .memory .dir) + 2)) (withCache B c call m .log)
