@@ -112,12 +112,13 @@ CallsKeepAcceptable =
 abbrev pub TwoLines : Type 0
 TwoLines = (B : Board) (c : Cipher) (m : Machine Cached) → opcode (fetched B c m) ≢ 32 → Within 2 2 (step B c (cachedSetup B c) m .log)
 
--- an instruction fills at most two lines and writes at most two more than the cache has slots; so a run of n has at most n times that
+-- any instruction fills at most two lines and writes at most two more than the cache has slots
 abbrev pub StepBound : Type 1
 StepBound =
     (B : Board) → BoardLaws B → (c : Cipher) → CipherLaws c → (m : Machine Cached) → Acceptable B m
     → Within 2 (length (m .memory .dir) + 2) (step B c (cachedSetup B c) m .log)
 
+-- a run of n counts at most n times that
 abbrev pub RunBound : Type 1
 RunBound =
     (B : Board) → BoardLaws B → (c : Cipher) → CipherLaws c → (n : ℕ) (m : Machine Cached) → Acceptable B m

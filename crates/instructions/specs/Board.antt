@@ -7,6 +7,7 @@ use lib.Dec.{leb}
 use Rattle.model.specs.Placement.{Placement}
 use Rattle.directory.specs.Direct.{direct, allFine}
 
+-- a board
 pub record Board : Type 0 where
   -- the bytes of a word
   pub wordBytes : ℕ

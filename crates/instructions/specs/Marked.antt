@@ -46,6 +46,7 @@ holdingWord w = record { key = zeros 16; mem = putAt 0 4 (littleBytes 4 w) (zero
 unfoldable pub stepOf : Cipher → ℕ → Bool → ℕ → ℕ → ℕ → Stepped
 stepOf c mode lock x y w = stepOn c (thread mode lock 0 x y) (holdingWord w)
 
+-- the twelve marked cases
 pub record Marked (c : Cipher) : Type 0 where
   -- all ones + 1 gives 0
   pub p1 : reg (stepOf c 0 false (2 ^ 64 - 1) 1 (encoded 1 3 1 2 0) .processor) 3 ≡ 0

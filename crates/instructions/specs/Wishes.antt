@@ -8,6 +8,7 @@ use Rattle.lists.specs.Words.{little, littleBytes}
 use Rattle.model.specs.Tags.{Tag}
 use Rattle.model.specs.Requests.{Reply, Prog, ret, ask, access, rekey}
 
+-- a wish
 pub data Wish : Type 0 where
   -- nothing
   idle : Wish

@@ -6,6 +6,7 @@ use Rattle.model.specs.Placement.{Placement}
 use Rattle.model.specs.PlacementLaws.{PlacementLaws}
 use Rattle.model.specs.Cached.{Cached}
 
+-- a memory in good order
 pub record Good (P : Placement) (L : PlacementLaws P) (N C : ℕ) (s : Cached) : Type 0 where
   pub mem : length (s .mem) ≡ N * 64
   pub macs : length (s .macs) ≡ N * 16

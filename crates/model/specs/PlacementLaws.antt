@@ -12,6 +12,7 @@ use Rattle.model.specs.Placement.{Entry, Placement, holding}
 pub record Tame (tag : Tag) (dirty : Bool) : Type 0 where
   pub tame : tag ≡ secureInstruction → dirty ≡ false
 
+-- the laws of a placement
 pub record PlacementLaws (P : Placement) : Type 1 where
   -- an orderly directory for a memory of N lines: what refusal 104 asks
   pub Orderly : ℕ → List ℕ → Type 0

@@ -7,6 +7,7 @@ use lib.ListN.{length}
 use Rattle.model.specs.PlacementLaws.{PlacementLaws}
 use Rattle.instructions.specs.Board.{Board}
 
+-- the laws of a board
 pub record BoardLaws (B : Board) : Type 1 where
   pub placement : PlacementLaws (B .placement)
   -- what refusals 103 and 104 let pass is orderly, and an orderly directory is let pass
