@@ -131,9 +131,17 @@ module _ (c : Cipher) (CL : CipherLaws c) (P : Placement) (L : PlacementLaws P) 
       (one-more p (s .dir) (t .dir) E l (λ h. rw (lose-dir s p) (evict-here c CL P L N C s p h)) (λ q d. rw (lose-dir s p) (evict-other c CL P L N C s p q d)))
       (lose-proper s p (omega arith) r)
 
-  -- after a power cut the manual's memory is given what the cut left, and the two agree
-  pub cut-agrees : (s : Cached) → Proper s → Agree c P L N C (asItStands (loseAll P s)) (loseAll P s)
+  -- after a power cut every place is empty, and the memory is still one in use
+  cut-lost : (s : Cached) → Proper s → Lost (loseAll P s)
   unfolding loseAll
-  cut-agrees s r =
-      let l = losing (length (s .dir)) 0 s (omega arith) (record { none = λ q a b. absurd (omega arith) }) r in
-      fresh-agrees (loseFrom P (length (s .dir)) 0 s) (l .rest) (l .gone)
+  cut-lost s r = losing (length (s .dir)) 0 s (omega arith) (record { none = λ q a b. absurd (omega arith) }) r
+
+  pub cut-proper : (s : Cached) → Proper s → Proper (loseAll P s)
+  cut-proper s r = cut-lost s r .rest
+
+  pub cut-empties : (s : Cached) → Proper s → AllEmpty P (loseAll P s .dir)
+  cut-empties s r = cut-lost s r .gone
+
+  -- the manual's memory is given what the cut left, and the two agree
+  pub cut-agrees : (s : Cached) → Proper s → Agree c P L N C (asItStands (loseAll P s)) (loseAll P s)
+  cut-agrees s r = fresh-agrees (loseAll P s) (cut-proper s r) (cut-empties s r)

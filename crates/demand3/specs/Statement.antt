@@ -11,6 +11,7 @@ use Rattle.model.specs.Cipher.{Cipher}
 use Rattle.model.specs.CipherLaws.{Sized, CipherLaws}
 use Rattle.model.specs.Uncached.{Uncached}
 use Rattle.model.specs.Cached.{Cached, evictAll, asItStands}
+use Rattle.keeps.specs.Good.{MadeOfBytes}
 use Rattle.keeps.specs.Within.{Within}
 use Rattle.agree.specs.Agree.{Agree, AllEmpty}
 use Rattle.instructions.specs.Rules.{firstOf}
@@ -18,7 +19,7 @@ use Rattle.instructions.specs.Board.{Board, documentBoard}
 use Rattle.instructions.specs.Record.{Processor, reset}
 use Rattle.instructions.specs.Fields.{opcode}
 use Rattle.instructions.specs.Refusals.{sizeFine, cachedFlaws}
-use Rattle.instructions.specs.Calls.{Call, bufferOf, Machine, Result, cachedSetup, uncachedSetup, step, runFrom, called}
+use Rattle.instructions.specs.Calls.{Call, reboot, powerCut, bufferOf, Machine, Result, cachedSetup, uncachedSetup, step, runFrom, called}
 use Rattle.sound.specs.BoardLaws.{BoardLaws}
 use Rattle.sound.specs.Acceptable.{Acceptable, fetched}
 
@@ -85,6 +86,18 @@ Demand3FromReset =
     → AlwaysSame documentBoard c calls
     (record { processor = reset documentBoard srh; memory = record { key = drk; mem = mem; macs = macs } })
     (record { processor = reset documentBoard srh; memory = record { key = drk; mem = mem; macs = macs; cache = zeros (C * 64); dir = zeros C } })
+
+-- whatever was lent, as far as it is accepted and made of bytes: behind a reboot one can start
+abbrev pub RebootStarts : Type 1
+RebootStarts =
+    (B : Board) → BoardLaws B → (c : Cipher) → CipherLaws c → (m : Machine Cached) → Acceptable B m → MadeOfBytes (m .memory)
+    → Startable B (withCache B c reboot m .machine .memory)
+
+-- and so behind a power cut
+abbrev pub CutStarts : Type 1
+CutStarts =
+    (B : Board) → BoardLaws B → (c : Cipher) → CipherLaws c → (m : Machine Cached) → Acceptable B m → MadeOfBytes (m .memory)
+    → Startable B (withCache B c powerCut m .machine .memory)
 
 -- ---- 2: what is kept
 
