@@ -1,0 +1,8 @@
+pub mod Update
+pub mod Evict
+pub mod Fill
+pub mod Access
+pub mod Bus
+pub mod Everything
+pub mod Requests
+pub mod Traps

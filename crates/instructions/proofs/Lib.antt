@@ -1,0 +1,4 @@
+pub mod Sane
+pub mod Phases
+pub mod Marked
+pub mod Traps

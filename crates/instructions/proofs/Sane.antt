@@ -1,0 +1,98 @@
+-- Every step, interrupt and reset leaves R0 zero and the mode at most 2.
+use Prim.Native.Nat.{ℕ, _≤_}
+use native.Mathlib.Omega.{arith}
+use mathlib.Core.Path.{_≡_, refl, sym, _∙_}
+use mathlib.Core.Bool.{Bool, true, false, not, _||_}
+use mathlib.Core.List.{List, [], _∷_}
+use lib.ListN.{getD}
+use lib.Seq.{getD-set-other}
+use lib.Dec.{eqb, ltb}
+use borrow.Author.Tests.{eqb-true, eqb-false, eq-eqb, ltb-false, le-ltb, not-false}
+use Rattle.lists.specs.If.{if}
+use Rattle.lists.proofs.Cases.{by-test}
+use Rattle.lists.proofs.ByteLaws.{getD-zeros}
+use Rattle.model.specs.Cipher.{Cipher}
+use Rattle.instructions.specs.Rules.{firstOf}
+use Rattle.instructions.specs.Board.{Board}
+use Rattle.instructions.specs.Record.{Processor, reg, withReg, withThread, active, reset, Sane}
+use Rattle.instructions.specs.Fields.{opcode, fieldA}
+use Rattle.instructions.specs.Operations.{hasValue, value, nextMode, executed}
+use Rattle.instructions.specs.Suspend.{hashOf, hidden, suspended, entered, resumes, restored, returned}
+use Rattle.instructions.specs.Faults.{lateFault}
+use Rattle.instructions.specs.Wishes.{Got}
+use Rattle.instructions.specs.Step.{knownFault, finished}
+use Rattle.instructions.specs.Refusals.{recordFlaws}
+
+-- refusal 105 lets exactly these records pass
+pub flaws-sane : (r : Processor) → firstOf (recordFlaws r) ≡ 0 → Sane r
+unfolding recordFlaws
+flaws-sane r z = go (not (eqb (reg r 0) 0)) (ltb 2 (r .cem .mode)) refl refl z
+  where
+    go : (a b : Bool) → not (eqb (reg r 0) 0) ≡ a → ltb 2 (r .cem .mode) ≡ b → _≡_ {A = ℕ} (if (a || b) 105 0) 0 → Sane r
+    go true b p q e = absurd (omega arith)
+    go false true p q e = absurd (omega arith)
+    go false false p q e = record { zeroth = eqb-true (reg r 0) 0 (not-false (eqb (reg r 0) 0) p); mode = ltb-false 2 (r .cem .mode) q }
+
+pub sane-flaws : (r : Processor) → Sane r → firstOf (recordFlaws r) ≡ 0
+unfolding recordFlaws
+sane-flaws r S = rw (eq-eqb (reg r 0) 0 (S .zeroth), le-ltb 2 (r .cem .mode) (S .mode))
+
+-- a write leaves R0 as it was
+with-zeroth : (n v : ℕ) (regs : List ℕ) → getD (withReg n v regs) 0 0 ≡ getD regs 0 0
+unfolding withReg
+with-zeroth n v regs =
+    by-test (eqb n 0) (λ h. rw h) (λ h. rw h (getD-set-other regs n 0 v 0 (λ e. eqb-false n 0 h (sym e))))
+
+-- hiding leaves R0 as it was
+hidden-zeroth : (B : Board) (c : Cipher) (key hash regs : List ℕ) → getD (hidden B c key hash regs) 0 0 ≡ getD regs 0 0
+unfolding hidden
+hidden-zeroth B c key hash [] = refl
+hidden-zeroth B c key hash (x ∷ l) = refl
+
+-- a choice between two numbers that are zero, or at most 2
+chosen : (P : ℕ → Type 0) (t : Bool) (a b : ℕ) → P a → P b → P (if t a b)
+chosen P true a b p q = p
+chosen P false a b p q = q
+
+chosen-zeroth : (t : Bool) (a b : List ℕ) → getD a 0 0 ≡ 0 → getD b 0 0 ≡ 0 → getD (if t a b) 0 0 ≡ 0
+chosen-zeroth true a b p q = p
+chosen-zeroth false a b p q = q
+
+module _ (B : Board) (c : Cipher) (key : List ℕ) (r : Processor) (S : Sane r) where
+  sane-executed : (w loaded : ℕ) → Sane (executed B c key r w loaded)
+  unfolding executed reg nextMode
+  sane-executed w loaded =
+      record {
+        zeroth = chosen-zeroth (hasValue w) (withReg (fieldA w) (value B r w loaded) (r .regs)) (r .regs) (with-zeroth (fieldA w) (value B r w loaded) (r .regs) ∙ S .zeroth) (S .zeroth);
+        mode = chosen (λ (m : ℕ). m ≤ 2) (eqb (opcode w) 39) 1 (if (eqb (opcode w) 40) 0 (r .cem .mode)) (omega arith) (chosen (λ (m : ℕ). m ≤ 2) (eqb (opcode w) 40) 0 (r .cem .mode) (omega arith) (S .mode));
+      }
+
+  pub sane-entered : (n : ℕ) → Sane (entered B c key n r)
+  unfolding entered suspended withThread reg
+  sane-entered n =
+      record {
+        zeroth = chosen-zeroth (active r) (hidden B c key (hashOf B c key (r .regs)) (r .regs)) (r .regs) (hidden-zeroth B c key (hashOf B c key (r .regs)) (r .regs) ∙ S .zeroth) (S .zeroth);
+        mode = chosen (λ (m : ℕ). m ≤ 2) (active r) 2 (r .cem .mode) (omega arith) (S .mode);
+      }
+
+  sane-returned : Sane (returned B c key r)
+  unfolding returned restored withThread reg
+  sane-returned =
+      record {
+        zeroth = chosen-zeroth (resumes r) (restored B c key r) (r .regs) (hidden-zeroth B c key (r .cem .saved .hash) (r .regs) ∙ S .zeroth) (S .zeroth);
+        mode = chosen (λ (m : ℕ). m ≤ 2) (resumes r) 1 (r .cem .mode) (omega arith) (S .mode);
+      }
+
+  pub sane-finished : (M : ℕ) (got data′ : Got) → Sane (finished B c key M r got data′ .processor)
+  unfolding finished
+  sane-finished M got data′ =
+      let w = got .number in
+      let known = knownFault B M r got in
+      let fault = if (eqb known 0) (lateFault B c key r w (data′ .failed)) known in
+      by-test (eqb fault 0)
+      (λ h. rw h (by-test (eqb (opcode w) 16) (λ k. rw k sane-returned) (λ k. rw k (sane-executed w (data′ .number)))))
+      (λ h. rw h (sane-entered fault))
+
+pub sane-reset : (B : Board) (srh : List ℕ) → Sane (reset B srh)
+unfolding reset reg
+sane-reset B srh = record { zeroth = getD-zeros 32 0 (omega arith); mode = omega arith }

@@ -1,0 +1,64 @@
+-- One instruction: fetch, decode, data access, effect. A fault leaves undone what the instruction would have done.
+use Prim.Native.Nat.{ℕ}
+use mathlib.Core.Bool.{true, false}
+use mathlib.Core.List.{List, [], _∷_}
+use lib.Dec.{eqb}
+use Rattle.lists.specs.If.{if}
+use Rattle.model.specs.Tags.{noTag, secureInstruction, secureData}
+use Rattle.model.specs.Cipher.{Cipher}
+use Rattle.model.specs.Requests.{Prog, ret, andThen}
+use Rattle.instructions.specs.Rules.{pick}
+use Rattle.instructions.specs.Board.{Board}
+use Rattle.instructions.specs.Record.{Processor, active}
+use Rattle.instructions.specs.Fields.{opcode}
+use Rattle.instructions.specs.Operations.{Ra, address, keyFrom, executed}
+use Rattle.instructions.specs.Suspend.{entered, returned}
+use Rattle.instructions.specs.Faults.{fetchFault, decodeFault, lateFault}
+use Rattle.instructions.specs.Wishes.{Wish, idle, word, newKey, Got, grant}
+
+-- the fetch: the instruction word at pc, as signed code in active mode
+unfoldable pub fetchWish : ℕ → Processor → Wish
+fetchWish M r = if (eqb (fetchFault M r) 0) (word (if (active r) secureInstruction noTag) (r .pc) 4 false 0) idle
+
+-- the fault that is known once the fetch has answered: its own, 4 where the line's MAC failed, or what decoding finds
+unfoldable pub knownFault : Board → ℕ → Processor → Got → ℕ
+knownFault B M r got =
+    if (eqb (fetchFault M r) 0) (if (got .failed) 4 (decodeFault B M r (got .number))) (fetchFault M r)
+
+-- the data access: load and store as the line stands, secure_load and secure_store on protected lines, and drk.set's new key
+unfoldable pub dataWish : Board → ℕ → Processor → Got → Wish
+dataWish B M r got =
+    let w = got .number in
+    let a = address B r w in
+    let k = B .wordBytes in
+    if (eqb (knownFault B M r got) 0)
+    (pick (opcode w)
+    ((10, word noTag a k false 0)
+    ∷ (11, word noTag a k true (Ra r w))
+    ∷ (32, newKey (keyFrom r w))
+    ∷ (41, word secureData a k false 0)
+    ∷ (42, word secureData a k true (Ra r w))
+    ∷ [])
+    idle)
+    idle
+
+-- the fault of the step, 0 for none, and the record after it
+pub record Stepped : Type 0 where
+  pub fault : ℕ
+  pub processor : Processor
+
+-- the end of the step: a fault is entered, rfi returns, any other instruction has its effect
+unfoldable pub finished : Board → Cipher → List ℕ → ℕ → Processor → Got → Got → Stepped
+finished B c key M r got data′ =
+    let w = got .number in
+    let known = knownFault B M r got in
+    let fault = if (eqb known 0) (lateFault B c key r w (data′ .failed)) known in
+    record {
+      fault = fault;
+      processor = if (eqb fault 0) (if (eqb (opcode w) 16) (returned B c key r) (executed B c key r w (data′ .number))) (entered B c key fault r);
+    }
+
+-- one instruction as a program of requests, under a DRK, on a memory of M bytes
+unfoldable pub instruction : Board → Cipher → List ℕ → ℕ → Processor → Prog Stepped
+instruction B c key M r =
+    andThen (grant (fetchWish M r)) (λ got. andThen (grant (dataWish B M r got)) (λ data′. ret (finished B c key M r got data′)))

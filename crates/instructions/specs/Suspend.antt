@@ -1,0 +1,68 @@
+-- Suspend and rfi: the registers are hashed and hidden when a fault or an interrupt meets active mode, and come back only unchanged.
+use Prim.Native.Nat.{ℕ, _+_}
+use mathlib.Core.Bool.{Bool, _&&_}
+use mathlib.Core.List.{List, [], _∷_, _++_}
+use lib.ListN.{drop}
+use lib.Dec.{eqb}
+use lib.Bits.{bitXor}
+use Rattle.lists.specs.If.{if}
+use Rattle.lists.specs.Bytes.{same}
+use Rattle.lists.specs.Parts.{partAt}
+use Rattle.lists.specs.Words.{big, bigBytes}
+use Rattle.model.specs.Cipher.{Cipher}
+use Rattle.instructions.specs.Board.{Board}
+use Rattle.instructions.specs.Record.{Processor, withThread, active}
+
+-- words as bytes, each high byte first
+unfoldable pub wordsBytes : ℕ → List ℕ → List ℕ
+wordsBytes k [] = []
+wordsBytes k (x ∷ l) = bigBytes k x ++ wordsBytes k l
+
+-- the hash of the registers: the MAC under the DRK of byte 4, R1..R31, each high byte first
+unfoldable pub hashOf : Board → Cipher → List ℕ → List ℕ → List ℕ
+hashOf B c key regs = c .mac key (4 ∷ wordsBytes (B .wordBytes) (drop 1 regs))
+
+-- words xored with the key stream, each taking its bytes in turn, high first, from byte i on
+unfoldable pub xored : ℕ → List ℕ → ℕ → List ℕ → List ℕ
+xored k stream i [] = []
+xored k stream i (x ∷ l) = bitXor x (big (partAt i k stream)) ∷ xored k stream (i + k) l
+
+-- R1 to R31 hidden by the key stream of the hash, or brought back; R0 stays
+unfoldable pub hidden : Board → Cipher → List ℕ → List ℕ → List ℕ → List ℕ
+hidden B c key hash [] = []
+hidden B c key hash (zeroth ∷ rest) = zeroth ∷ xored (B .wordBytes) (c .stream key hash) 0 rest
+
+-- an active thread is suspended: hash, then hide the registers, save pc, PID and CID, mode 2; any other record stays
+unfoldable pub suspended : Board → Cipher → List ℕ → Processor → Processor
+suspended B c key r =
+    let hash = hashOf B c key (r .regs) in
+    let on = active r in
+    withThread (if on (hidden B c key hash (r .regs)) (r .regs)) (r .pc) (if on 2 (r .cem .mode))
+    (if on (record { hash = hash; address = r .pc; pid = r .pid; cid = r .cid }) (r .cem .saved))
+    r
+
+-- a fault or an interrupt: an active thread is suspended; then EPC = pc, cause = number, pc = 64
+unfoldable pub entered : Board → Cipher → List ℕ → ℕ → Processor → Processor
+entered B c key n r =
+    let q = suspended B c key r in
+    record { regs = q .regs; pc = 64; epc = r .pc; cause = n; pid = q .pid; cid = q .cid; cem = q .cem }
+
+-- does rfi resume: mode 2, and EPC, PID and CID equal to the saved three?
+unfoldable pub resumes : Processor → Bool
+resumes r =
+    let s = r .cem .saved in
+    eqb (r .cem .mode) 2 && (eqb (r .epc) (s .address) && (eqb (r .pid) (s .pid) && eqb (r .cid) (s .cid)))
+
+-- the registers as a resume brings them back
+unfoldable pub restored : Board → Cipher → List ℕ → Processor → List ℕ
+restored B c key r = hidden B c key (r .cem .saved .hash) (r .regs)
+
+-- is the hash of the registers brought back the saved one?
+unfoldable pub hashRight : Board → Cipher → List ℕ → Processor → Bool
+hashRight B c key r = same (hashOf B c key (restored B c key r)) (r .cem .saved .hash)
+
+-- the record after rfi: a resume brings the registers back with mode 1; pc = EPC
+unfoldable pub returned : Board → Cipher → List ℕ → Processor → Processor
+returned B c key r =
+    let on = resumes r in
+    withThread (if on (restored B c key r) (r .regs)) (r .epc) (if on 1 (r .cem .mode)) (r .cem .saved) r

@@ -1,0 +1,1 @@
+// The meaning of the processor: its record, its instructions and faults, and the calls of the host. Definitions and laws only, no code.

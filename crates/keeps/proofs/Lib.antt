@@ -1,0 +1,5 @@
+pub mod Evict
+pub mod Access
+pub mod Requests
+pub mod Counts
+pub mod Bytes

@@ -1,0 +1,6 @@
+pub mod LineLaws
+pub mod Perform
+pub mod Sums
+pub mod Ways
+pub mod Traps
+pub mod Manual
