@@ -8,6 +8,7 @@ use lib.ListN.{getD}
 use lib.Seq.{getD-set-other}
 use lib.Dec.{eqb, ltb}
 use borrow.Author.Tests.{eqb-true, eqb-false, eq-eqb, ltb-false, le-ltb, not-false}
+use Rattle.lists.specs.Words.{xoredBehind}
 use Rattle.lists.specs.If.{if}
 use Rattle.lists.proofs.Cases.{by-test}
 use Rattle.lists.proofs.ByteLaws.{getD-zeros}
@@ -45,7 +46,7 @@ with-zeroth n v regs =
 
 -- hiding leaves R0 as it was
 hidden-zeroth : (B : Board) (c : Cipher) (key hash regs : List ℕ) → getD (hidden B c key hash regs) 0 0 ≡ getD regs 0 0
-unfolding hidden
+unfolding hidden xoredBehind
 hidden-zeroth B c key hash [] = refl
 hidden-zeroth B c key hash (x ∷ l) = refl
 
