@@ -32,11 +32,12 @@ pub aesLaws : CipherLaws aesCipher
 unfolding aesCipher enciphered deciphered dataMac
 aesLaws =
     record {
-        encipher-length = λ k a l h. cbcEncrypt-length (keyExpansion (lineKey k)) (startVector k a) l ∙ h;
-        decipher-length = λ k a l h. cbcDecrypt-length (keyExpansion (lineKey k)) (startVector k a) l ∙ h;
-        dataMac-length = λ k a l h. mac-length k _;
-        mac-length = mac-length;
-        stream-length = λ k h e. stream-length k h;
-        encipher-bytes = λ k a l hk h. cbcEncrypt-bytes (keyExpansion (lineKey k)) (startVector k a) l (vector-bytes k a) (h .bytes);
-        decipher-bytes = λ k a l hk h. cbcDecrypt-bytes (keyExpansion (lineKey k)) (startVector k a) l (vector-bytes k a) (h .bytes);
-        decipher-encipher = λ k a l hk h. cbcDecrypt-cbcEncrypt (keyExpansion (lineKey k)) (startVector k a) l (vector-bytes k a) (h .bytes) }
+      encipher-length = λ k a l h. cbcEncrypt-length (keyExpansion (lineKey k)) (startVector k a) l ∙ h;
+      decipher-length = λ k a l h. cbcDecrypt-length (keyExpansion (lineKey k)) (startVector k a) l ∙ h;
+      dataMac-length = λ k a l h. mac-length k _;
+      mac-length = mac-length;
+      stream-length = λ k h e. stream-length k h;
+      encipher-bytes = λ k a l hk h. cbcEncrypt-bytes (keyExpansion (lineKey k)) (startVector k a) l (vector-bytes k a) (h .bytes);
+      decipher-bytes = λ k a l hk h. cbcDecrypt-bytes (keyExpansion (lineKey k)) (startVector k a) l (vector-bytes k a) (h .bytes);
+      decipher-encipher = λ k a l hk h. cbcDecrypt-cbcEncrypt (keyExpansion (lineKey k)) (startVector k a) l (vector-bytes k a) (h .bytes);
+    }
