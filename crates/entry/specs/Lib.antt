@@ -1,0 +1,1 @@
+-- The entry checks cite the meaning's own refusals; nothing is defined here.
