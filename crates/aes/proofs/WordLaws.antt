@@ -1,0 +1,108 @@
+-- Words and their bytes: the bytes of a sum, of a word made of bytes, and of a word that is turned.
+use mathlib.Core.Path.{_≡_, refl, sym, ap, ap₂, _∙_}
+use mathlib.Core.List.{List, [], _∷_}
+use Prim.Native.Nat.{ℕ, _+_, _-_, _*_, _/_, _%_, _^_, _<_}
+use native.Mathlib.Nat.{div-div-eq-div-mul}
+use native.Mathlib.Omega.{arith}
+use Rattle.field.specs.Field.{_⊕_}
+use Rattle.field.specs.Mixing.{word}
+use Rattle.field.proofs.Xor.{⊕-div, ⊕-mod}
+use Rattle.aes.specs.State.{byteOf}
+use Rattle.aes.specs.Words.{Word, turned, fourWords}
+
+pub byteOf-lt : (w r : ℕ) → byteOf w r < 256
+unfolding byteOf
+byteOf-lt w r = let x : ℕ = w / 2 ^ (8 * (3 - r)) in omega arith
+
+pub byteOf-⊕ : (x y r : ℕ) → byteOf (x ⊕ y) r ≡ byteOf x r ⊕ byteOf y r
+unfolding byteOf
+byteOf-⊕ x y r =
+    ap (λ (z : ℕ). z % 256) (⊕-div x y (8 * (3 - r)))
+    ∙ ⊕-mod (x / 2 ^ (8 * (3 - r))) (y / 2 ^ (8 * (3 - r))) 8
+
+-- the last byte, as the code takes it
+pub byteOf-last : (w : ℕ) → w % 256 ≡ byteOf w 3
+unfolding byteOf
+byteOf-last w = omega arith
+
+-- a word below 2^32 is the word of its bytes
+pub bytes-word : (w : ℕ) → w < 2 ^ 32 → word (byteOf w 0) (byteOf w 1) (byteOf w 2) (byteOf w 3) ≡ w
+unfolding byteOf word
+bytes-word w h =
+    let e1 : w / 16777216 % 256 * 256 + w / 65536 % 256 ≡ w / 65536 = omega (arith, div-div-eq-div-mul w 65536 256) in
+    let e2 : w / 65536 * 256 + w / 256 % 256 ≡ w / 256 = omega (arith, div-div-eq-div-mul w 256 256) in
+    let e3 : w / 256 * 256 + w % 256 ≡ w = omega arith in
+    omega arith
+
+-- the two halves of a word, from its bytes
+pub halves : (w : ℕ) → w < 2 ^ 32
+    → (w / 65536 ≡ w / 16777216 % 256 * 256 + w / 65536 % 256) × (w % 65536 ≡ w / 256 % 256 * 256 + w % 256)
+halves w h = (omega (arith, div-div-eq-div-mul w 65536 256), omega (arith, div-div-eq-div-mul w 256 256))
+
+regrouped : (a b c d : ℕ) → (a * 256 + b) * 65536 + (c * 256 + d) ≡ word a b c d
+unfolding word
+regrouped a b c d = omega arith
+
+-- the two halves of a word change places
+pub turned-half : (w : ℕ) → w < 2 ^ 32 → w % 65536 * 65536 + w / 65536 ≡ turned w 2
+unfolding turned byteOf word
+turned-half w h =
+    ap₂ (λ (x y : ℕ). x * 65536 + y) (halves w h .1) (halves w h .0)
+    ∙ regrouped (w / 256 % 256) (w % 256) (w / 16777216 % 256) (w / 65536 % 256) ∙ ap (λ (x : ℕ). word (w / 256 % 256) x (w / 16777216 % 256) (w / 65536 % 256)) (byteOf-last w)
+
+-- the four bytes of a word
+pub record Bytes (w a b c d : ℕ) : Type 0 where
+  pub byte0 : byteOf w 0 ≡ a
+  pub byte1 : byteOf w 1 ≡ b
+  pub byte2 : byteOf w 2 ≡ c
+  pub byte3 : byteOf w 3 ≡ d
+
+pub word-bytes : (a b c d : ℕ) → a < 256 → b < 256 → c < 256 → d < 256 → Bytes (word a b c d) a b c d
+unfolding byteOf word
+word-bytes a b c d ha hb hc hd = omega arith
+
+pub turned-bytes : (w n : ℕ)
+    → Bytes (turned w n) (byteOf w ((4 - n) % 4)) (byteOf w ((5 - n) % 4)) (byteOf w ((6 - n) % 4)) (byteOf w ((7 - n) % 4))
+unfolding turned
+turned-bytes w n =
+    word-bytes (byteOf w ((4 - n) % 4)) (byteOf w ((5 - n) % 4)) (byteOf w ((6 - n) % 4)) (byteOf w ((7 - n) % 4))
+    (byteOf-lt w _) (byteOf-lt w _) (byteOf-lt w _) (byteOf-lt w _)
+
+-- the bytes of a sum, from those of its parts
+pub bytes-⊕ : {w a b c d w' a' b' c' d' : ℕ} → Bytes w a b c d → Bytes w' a' b' c' d'
+    → Bytes (w ⊕ w') (a ⊕ a') (b ⊕ b') (c ⊕ c') (d ⊕ d')
+bytes-⊕ {w} {a} {b} {c} {d} {w'} x y =
+    record {
+      byte0 = byteOf-⊕ w w' 0 ∙ ap₂ _⊕_ (x .byte0) (y .byte0);
+      byte1 = byteOf-⊕ w w' 1 ∙ ap₂ _⊕_ (x .byte1) (y .byte1);
+      byte2 = byteOf-⊕ w w' 2 ∙ ap₂ _⊕_ (x .byte2) (y .byte2);
+      byte3 = byteOf-⊕ w w' 3 ∙ ap₂ _⊕_ (x .byte3) (y .byte3);
+    }
+
+-- a word's bytes, taken from a word that equals it
+pub bytes-of : {w v : ℕ} → w ≡ v → Bytes w (byteOf v 0) (byteOf v 1) (byteOf v 2) (byteOf v 3)
+bytes-of e =
+    record {
+      byte0 = ap (λ (x : ℕ). byteOf x 0) e;
+      byte1 = ap (λ (x : ℕ). byteOf x 1) e;
+      byte2 = ap (λ (x : ℕ). byteOf x 2) e;
+      byte3 = ap (λ (x : ℕ). byteOf x 3) e;
+    }
+
+-- the sixteen bytes of four words, as the code takes them
+pub block-is : (a b c d : ℕ)
+    → a / 16777216 % 256 ∷ a / 65536 % 256 ∷ a / 256 % 256 ∷ a % 256 ∷ b / 16777216 % 256 ∷ b / 65536 % 256 ∷ b / 256 % 256 ∷ b % 256
+    ∷ c / 16777216 % 256 ∷ c / 65536 % 256 ∷ c / 256 % 256 ∷ c % 256 ∷ d / 16777216 % 256 ∷ d / 65536 % 256 ∷ d / 256 % 256 ∷ d % 256 ∷ []
+    ≡ fourWords a b c d
+unfolding byteOf
+block-is a b c d i =
+    byteOf a 0 ∷ byteOf a 1 ∷ byteOf a 2 ∷ byteOf-last a i ∷ byteOf b 0 ∷ byteOf b 1 ∷ byteOf b 2 ∷ byteOf-last b i
+    ∷ byteOf c 0 ∷ byteOf c 1 ∷ byteOf c 2 ∷ byteOf-last c i ∷ byteOf d 0 ∷ byteOf d 1 ∷ byteOf d 2 ∷ byteOf-last d i ∷ []
+
+-- the sixteen bytes of four words, from the bytes of each
+pub four-bytes : {w a b c d w' a' b' c' d' v e f g h v' e' f' g' h' : ℕ}
+    → Bytes w a b c d → Bytes w' a' b' c' d' → Bytes v e f g h → Bytes v' e' f' g' h'
+    → fourWords w w' v v' ≡ a ∷ b ∷ c ∷ d ∷ a' ∷ b' ∷ c' ∷ d' ∷ e ∷ f ∷ g ∷ h ∷ e' ∷ f' ∷ g' ∷ h' ∷ []
+four-bytes p q r s i =
+    p .byte0 i ∷ p .byte1 i ∷ p .byte2 i ∷ p .byte3 i ∷ q .byte0 i ∷ q .byte1 i ∷ q .byte2 i ∷ q .byte3 i
+    ∷ r .byte0 i ∷ r .byte1 i ∷ r .byte2 i ∷ r .byte3 i ∷ s .byte0 i ∷ s .byte1 i ∷ s .byte2 i ∷ s .byte3 i ∷ []

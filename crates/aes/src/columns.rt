@@ -1,0 +1,139 @@
+// A state as four words, one for each column, and the ways between words and bytes.
+ghost use mathlib.Core.Path.{_≡_};
+ghost use Prim.Native.Nat.{_+_, _≤_};
+ghost use lib.ListN.{length};
+ghost use Rattle.lists.specs.Parts.{putAt};
+ghost use Rattle.field.specs.Field.{_⊕_};
+ghost use Rattle.aes.specs.State.{at, state};
+ghost use Rattle.aes.specs.Words.{Word, Loaded, turned, blockOf};
+
+// The four columns of a state, the first row in the highest byte of each word.
+pub struct Columns {
+    pub a: u32,
+    pub b: u32,
+    pub c: u32,
+    pub d: u32,
+}
+
+// A byte as a word.
+fn wide(x: u8) -> u32
+    ensures { λ r. ⌜ r ≡ x ⌝ }
+{
+    x as u32
+}
+
+// The word of four bytes, the first one highest.
+pub(crate) fn word_of(a: u8, b: u8, c: u8, d: u8) -> u32
+    ensures { λ r. ⌜ Word a b c d r ⌝ }
+{
+    wide(a) * 16777216 + wide(b) * 65536 + wide(c) * 256 + wide(d)
+}
+
+// A word with its last byte in front.
+pub(crate) fn turn_one(x: u32) -> u32
+    ensures { λ r. ⌜ r ≡ turned x 1 ⌝ }
+{
+    x % 256 * 16777216 + x / 256
+}
+
+// A word with its last two bytes in front.
+pub(crate) fn turn_two(x: u32) -> u32
+    ensures { λ r. ⌜ r ≡ turned x 2 ⌝ }
+{
+    x % 65536 * 65536 + x / 65536
+}
+
+// A word with its last three bytes in front.
+pub(crate) fn turn_three(x: u32) -> u32
+    ensures { λ r. ⌜ r ≡ turned x 3 ⌝ }
+{
+    x % 16777216 * 256 + x / 16777216
+}
+
+// The columns of a block of sixteen bytes.
+pub(crate) fn columns_of(b: &[u8; 16]) -> Columns
+    ensures { λ r. ⌜ Loaded (now (b .entry)) r ⌝ }
+{
+    Columns {
+        a: word_of(b[0], b[1], b[2], b[3]),
+        b: word_of(b[4], b[5], b[6], b[7]),
+        c: word_of(b[8], b[9], b[10], b[11]),
+        d: word_of(b[12], b[13], b[14], b[15]),
+    }
+}
+
+// The sixteen bytes of a block's columns.
+pub(crate) fn bytes_of(x: Columns) -> [u8; 16]
+    ensures { λ r. ⌜ r ≡ blockOf x ⌝ }
+{
+    let a = x.a;
+    let b = x.b;
+    let c = x.c;
+    let d = x.d;
+    [
+        (a / 16777216 % 256) as u8,
+        (a / 65536 % 256) as u8,
+        (a / 256 % 256) as u8,
+        (a % 256) as u8,
+        (b / 16777216 % 256) as u8,
+        (b / 65536 % 256) as u8,
+        (b / 256 % 256) as u8,
+        (b % 256) as u8,
+        (c / 16777216 % 256) as u8,
+        (c / 65536 % 256) as u8,
+        (c / 256 % 256) as u8,
+        (c % 256) as u8,
+        (d / 16777216 % 256) as u8,
+        (d / 65536 % 256) as u8,
+        (d / 256 % 256) as u8,
+        (d % 256) as u8,
+    ]
+}
+
+// The sum of two states.
+pub(crate) fn plus(x: Columns, y: Columns) -> Columns
+    ensures { λ r. ⌜ blockOf r ≡ state (λ i. at (blockOf x) i ⊕ at (blockOf y) i) ⌝ }
+{
+    Columns {
+        a: x.a ^ y.a,
+        b: x.b ^ y.b,
+        c: x.c ^ y.c,
+        d: x.d ^ y.d,
+    }
+}
+
+// The columns of the sixteen bytes that stand from place k on.
+pub(crate) fn columns_at(b: &[u8], k: usize) -> Columns
+    requires { ⌜ k + 16 ≤ length (now b) ⌝ }
+    ensures { λ r. ⌜ blockOf r ≡ state (λ i. at (now (b .entry)) (k + i)) ⌝ }
+{
+    Columns {
+        a: word_of(b[k], b[k + 1], b[k + 2], b[k + 3]),
+        b: word_of(b[k + 4], b[k + 5], b[k + 6], b[k + 7]),
+        c: word_of(b[k + 8], b[k + 9], b[k + 10], b[k + 11]),
+        d: word_of(b[k + 12], b[k + 13], b[k + 14], b[k + 15]),
+    }
+}
+
+// Lays the sixteen bytes of a block's columns down from place k on.
+pub(crate) fn store(x: Columns, b: &mut [u8], k: usize)
+    requires { ⌜ k + 16 ≤ length (now b) ⌝ }
+    ensures { λ _. ⌜ now (b .exit) ≡ putAt k 16 (blockOf x) (now (b .entry)) ⌝ }
+{
+    b[k] = (x.a / 16777216 % 256) as u8;
+    b[k + 1] = (x.a / 65536 % 256) as u8;
+    b[k + 2] = (x.a / 256 % 256) as u8;
+    b[k + 3] = (x.a % 256) as u8;
+    b[k + 4] = (x.b / 16777216 % 256) as u8;
+    b[k + 5] = (x.b / 65536 % 256) as u8;
+    b[k + 6] = (x.b / 256 % 256) as u8;
+    b[k + 7] = (x.b % 256) as u8;
+    b[k + 8] = (x.c / 16777216 % 256) as u8;
+    b[k + 9] = (x.c / 65536 % 256) as u8;
+    b[k + 10] = (x.c / 256 % 256) as u8;
+    b[k + 11] = (x.c % 256) as u8;
+    b[k + 12] = (x.d / 16777216 % 256) as u8;
+    b[k + 13] = (x.d / 65536 % 256) as u8;
+    b[k + 14] = (x.d / 256 % 256) as u8;
+    b[k + 15] = (x.d % 256) as u8;
+}

@@ -1,0 +1,6 @@
+pub mod Every
+pub mod Tables
+pub mod Xor
+pub mod Product
+pub mod SBoxLaws
+pub mod MixingLaws
