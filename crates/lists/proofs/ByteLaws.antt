@@ -7,11 +7,7 @@ use mathlib.Core.Bool.{Bool, true, false, _&&_, false≢true}
 use borrow.Author.Tests.{eq-eqb, eqb-true}
 use lib.Dec.{eqb}
 use mathlib.Core.List.{List, [], _∷_, _++_}
-<<<<<<< HEAD
 use lib.ListN.{length, take, drop, getD, replicate, length-replicate, getD-replicate}
-=======
-use lib.ListN.{length, take, drop, getD, replicate, length-replicate}
->>>>>>> aes
 use lib.Seq.{getD-drop}
 use Rattle.lists.specs.Parts.{partAt, putAt}
 use Rattle.lists.specs.Bytes.{Bytes, zeros, same}
@@ -61,13 +57,10 @@ pub length-zeros : (k : ℕ) → length (zeros k) ≡ k
 unfolding zeros
 length-zeros k = length-replicate k 0
 
-<<<<<<< HEAD
 pub getD-zeros : (k i : ℕ) → i < k → getD (zeros k) i 0 ≡ 0
 unfolding zeros
 getD-zeros k i h = getD-replicate {A = ℕ} k i 0 0 h
 
-=======
->>>>>>> aes
 pub bytes-zeros : (k : ℕ) → Bytes (zeros k)
 unfolding zeros
 bytes-zeros zero = bytes-none
