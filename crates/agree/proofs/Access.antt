@@ -1,8 +1,7 @@
 -- An access, by a hit or after an eviction and a fill, with or without a change, answers alike in both memories and keeps the agreement.
-use Prim.Native.Nat.{ℕ, _*_, _<_}
-use mathlib.Core.Path.{_≡_, refl, sym, ap, _∙_, subst}
-use mathlib.Core.Logic.{_≢_}
-use mathlib.Core.Bool.{Bool, true, false, _&&_, true≢false, false≢true}
+use Prim.Native.Nat.{ℕ, _<_}
+use mathlib.Core.Path.{_≡_, refl, sym, ap, _∙_}
+use mathlib.Core.Bool.{Bool, true, false, _&&_, false≢true}
 use mathlib.Core.List.{List}
 use mathlib.Core.Option.{none, some}
 use lib.ListN.{length}
@@ -12,18 +11,18 @@ use Rattle.lists.proofs.NthLaws.{nth-put-length, nth-put-here, nth-put-other, n
 use Rattle.model.specs.Tags.{Tag, noTag, secureInstruction, secureData}
 use Rattle.model.specs.Cipher.{Cipher}
 use Rattle.model.specs.CipherLaws.{Sized, CipherLaws}
-use Rattle.model.specs.Lines.{lineAt, putLine, macAt, putMac, seen, stored, signed, passes}
+use Rattle.model.specs.Lines.{lineAt, putLine, macAt, putMac, seen, stored, signed}
 use Rattle.model.specs.Placement.{Entry, Placement, holding}
-use Rattle.model.specs.PlacementLaws.{PlacementLaws, Tame}
+use Rattle.model.specs.PlacementLaws.{PlacementLaws}
 use Rattle.model.specs.Requests.{access}
 use Rattle.model.specs.Uncached.{Uncached, uncachedHandle}
-use Rattle.model.specs.Cached.{Cached, serves, hitPlace, evictPlace, fillPlace, thenDo, readyPlace, writePlace, accessPlace, cachedHandle}
-use Rattle.model.proofs.LineLaws.{line-sized, mac-length, seen-sized, stored-sized, signed-length, seen-stored, passes-signed}
+use Rattle.model.specs.Cached.{Cached, serves, hitPlace, evictPlace, thenDo, readyPlace, writePlace}
+use Rattle.model.proofs.LineLaws.{mac-length, stored-sized, signed-length, seen-stored, passes-signed}
 use Rattle.model.proofs.Ways.{serving}
 use Rattle.keeps.specs.Good.{Good}
 use Rattle.keeps.proofs.Evict.{evict-here}
 use Rattle.keeps.proofs.Access.{Placed, chosen-placed, evict-placed, hit-placed, write-good}
-use Rattle.agree.specs.Agree.{Held, HeldAt, Free, Same, Agree}
+use Rattle.agree.specs.Agree.{HeldAt, Free, Agree}
 use Rattle.agree.proofs.Update.{one-place, update-agrees}
 use Rattle.agree.proofs.Evict.{body-sized, evict-agrees, evict-frees}
 use Rattle.agree.proofs.Fill.{Ready, fill-ready}

@@ -1,23 +1,23 @@
 -- The bus first evicts its line; then both memories have it at home, and may change it alike.
-use Prim.Native.Nat.{ℕ, _*_, _<_}
+use Prim.Native.Nat.{ℕ, _<_}
 use mathlib.Core.Path.{_≡_, refl, sym, ap, _∙_, subst}
 use mathlib.Core.Logic.{_≢_}
-use mathlib.Core.Bool.{Bool, true, false, _&&_, false≢true}
+use mathlib.Core.Bool.{Bool, false, _&&_, false≢true}
 use mathlib.Core.List.{List}
 use lib.ListN.{length}
 use lib.Dec.{eqb}
-use borrow.Author.Tests.{eqb-true, eq-eqb}
+use borrow.Author.Tests.{eq-eqb}
 use Rattle.lists.specs.If.{if}
 use Rattle.lists.proofs.Cases.{by-eq, by-test}
 use Rattle.lists.proofs.NthLaws.{nth-put-length, nth-put-here, nth-put-other, nth-put-bytes}
 use Rattle.model.specs.Cipher.{Cipher}
 use Rattle.model.specs.CipherLaws.{Sized, CipherLaws}
 use Rattle.model.specs.Lines.{lineAt, putLine, macAt, putMac}
-use Rattle.model.specs.Placement.{Entry, Placement}
+use Rattle.model.specs.Placement.{Placement}
 use Rattle.model.specs.PlacementLaws.{PlacementLaws}
 use Rattle.model.specs.Uncached.{Uncached}
-use Rattle.model.specs.Cached.{Cached, holds, evictPlace, evictLine}
-use Rattle.agree.specs.Agree.{Held, HeldAt, Free, Same, Agree}
+use Rattle.model.specs.Cached.{Cached, holds, evictLine}
+use Rattle.agree.specs.Agree.{Free, Agree}
 use Rattle.agree.proofs.Update.{held-moves}
 use Rattle.agree.proofs.Evict.{evict-agrees, evict-frees}
 

@@ -1,27 +1,25 @@
 -- Everything written back or lost: then every place is empty, and what is in memory is all there is.
-use Prim.Native.Nat.{ℕ, zero, suc, _+_, _*_, _<_, _≤_}
+use Prim.Native.Nat.{ℕ, zero, suc, _+_, _<_}
 use native.Mathlib.Omega.{arith}
-use native.Mathlib.Decide.{decLt}
-use mathlib.Core.Path.{_≡_, refl, sym, ap, _∙_, subst}
+use mathlib.Core.Path.{_≡_, refl, sym, _∙_, subst}
 use mathlib.Core.Logic.{_≢_}
-use mathlib.Core.Bool.{Bool, true, false, false≢true}
+use mathlib.Core.Bool.{false, false≢true}
 use mathlib.Core.List.{List}
 use lib.ListN.{length}
-use Rattle.lists.specs.If.{if}
 use Rattle.lists.specs.Bytes.{Bytes}
-use Rattle.lists.proofs.Cases.{by-eq, by-test}
+use Rattle.lists.proofs.Cases.{by-eq}
 use Rattle.lists.proofs.PartLaws.{by-parts}
 use Rattle.model.specs.Cipher.{Cipher}
 use Rattle.model.specs.CipherLaws.{Sized, CipherLaws}
-use Rattle.model.specs.Lines.{lineAt, putLine, macAt, putMac}
-use Rattle.model.specs.Placement.{Entry, Placement}
+use Rattle.model.specs.Lines.{lineAt, macAt}
+use Rattle.model.specs.Placement.{Placement}
 use Rattle.model.specs.PlacementLaws.{PlacementLaws}
 use Rattle.model.specs.Uncached.{Uncached}
 use Rattle.model.specs.Cached.{Cached, thenDo, evictPlace, evictFrom, evictAll, losePlace, loseFrom, loseAll, asItStands}
 use Rattle.keeps.specs.Good.{Good}
 use Rattle.keeps.proofs.Evict.{evict-length, evict-here, evict-other}
 use Rattle.keeps.proofs.Requests.{lose-good, lose-length}
-use Rattle.agree.specs.Agree.{Held, HeldAt, Free, Same, Agree, AllEmpty}
+use Rattle.agree.specs.Agree.{Free, Agree, AllEmpty}
 use Rattle.agree.proofs.Evict.{evict-agrees}
 
 module _ (c : Cipher) (CL : CipherLaws c) (P : Placement) (L : PlacementLaws P) (N C : ℕ) where
@@ -133,9 +131,17 @@ module _ (c : Cipher) (CL : CipherLaws c) (P : Placement) (L : PlacementLaws P) 
       (one-more p (s .dir) (t .dir) E l (λ h. rw (lose-dir s p) (evict-here c CL P L N C s p h)) (λ q d. rw (lose-dir s p) (evict-other c CL P L N C s p q d)))
       (lose-proper s p (omega arith) r)
 
-  -- after a power cut the manual's memory is given what the cut left, and the two agree
-  pub cut-agrees : (s : Cached) → Proper s → Agree c P L N C (asItStands (loseAll P s)) (loseAll P s)
+  -- after a power cut every place is empty, and the memory is still one in use
+  cut-lost : (s : Cached) → Proper s → Lost (loseAll P s)
   unfolding loseAll
-  cut-agrees s r =
-      let l = losing (length (s .dir)) 0 s (omega arith) (record { none = λ q a b. absurd (omega arith) }) r in
-      fresh-agrees (loseFrom P (length (s .dir)) 0 s) (l .rest) (l .gone)
+  cut-lost s r = losing (length (s .dir)) 0 s (omega arith) (record { none = λ q a b. absurd (omega arith) }) r
+
+  pub cut-proper : (s : Cached) → Proper s → Proper (loseAll P s)
+  cut-proper s r = cut-lost s r .rest
+
+  pub cut-empties : (s : Cached) → Proper s → AllEmpty P (loseAll P s .dir)
+  cut-empties s r = cut-lost s r .gone
+
+  -- the manual's memory is given what the cut left, and the two agree
+  pub cut-agrees : (s : Cached) → Proper s → Agree c P L N C (asItStands (loseAll P s)) (loseAll P s)
+  cut-agrees s r = fresh-agrees (loseAll P s) (cut-proper s r) (cut-empties s r)

@@ -1,8 +1,7 @@
 -- Evicting any slot keeps the agreement.
-use Prim.Native.Nat.{ℕ, _*_, _<_}
+use Prim.Native.Nat.{ℕ, _<_}
 use mathlib.Core.Path.{_≡_, refl, sym, ap, _∙_, subst}
-use mathlib.Core.Logic.{_≢_}
-use mathlib.Core.Bool.{Bool, true, false, true≢false, false≢true}
+use mathlib.Core.Bool.{true, false≢true}
 use mathlib.Core.List.{List}
 use lib.ListN.{length}
 use Rattle.lists.specs.If.{if}
@@ -10,10 +9,9 @@ use Rattle.lists.specs.Bytes.{zeros}
 use Rattle.lists.proofs.ByteLaws.{length-zeros}
 use Rattle.lists.proofs.Cases.{by-eq, by-test}
 use Rattle.lists.proofs.NthLaws.{nth-put-here, nth-put-other, nth-put-bytes}
-use Rattle.model.specs.Tags.{Tag, noTag, secureInstruction, secureData}
 use Rattle.model.specs.Cipher.{Cipher}
 use Rattle.model.specs.CipherLaws.{Sized, CipherLaws}
-use Rattle.model.specs.Lines.{lineAt, putLine, macAt, putMac, seen, stored, signed, passes}
+use Rattle.model.specs.Lines.{lineAt, putLine, macAt, putMac, stored, signed}
 use Rattle.model.specs.Placement.{Entry, Placement}
 use Rattle.model.specs.PlacementLaws.{PlacementLaws}
 use Rattle.model.specs.Uncached.{Uncached}
@@ -21,7 +19,7 @@ use Rattle.model.specs.Cached.{Cached, evictPlace}
 use Rattle.model.proofs.LineLaws.{line-sized, seen-sized, stored-sized}
 use Rattle.keeps.proofs.Evict.{evict-length, evict-here, evict-other, evict-empty, evict-good, in-memory, home-mac}
 use Rattle.agree.proofs.Update.{one-place, update-agrees}
-use Rattle.agree.specs.Agree.{Held, HeldAt, Free, Same, Agree}
+use Rattle.agree.specs.Agree.{Free, Agree}
 
 module _ (c : Cipher) (CL : CipherLaws c) (P : Placement) (L : PlacementLaws P) (N C : ℕ) where
   -- the bytes of a held line are 64 bytes

@@ -1,19 +1,18 @@
 -- Filling an empty slot keeps the agreement, and both memories come to the same check.
-use Prim.Native.Nat.{ℕ, _*_, _<_}
-use mathlib.Core.Path.{_≡_, refl, sym, ap, _∙_, subst}
+use Prim.Native.Nat.{ℕ, _<_}
+use mathlib.Core.Path.{_≡_, refl, sym, ap, _∙_}
 use mathlib.Core.Logic.{_≢_}
-use mathlib.Core.Bool.{Bool, true, false, true≢false, false≢true}
+use mathlib.Core.Bool.{Bool, true, false, false≢true}
 use mathlib.Core.List.{List}
 use lib.ListN.{length}
-use Rattle.lists.specs.If.{if}
 use Rattle.lists.specs.Bytes.{zeros}
 use Rattle.lists.proofs.ByteLaws.{length-zeros}
-use Rattle.lists.proofs.Cases.{by-eq, by-test}
+use Rattle.lists.proofs.Cases.{by-test}
 use Rattle.lists.proofs.NthLaws.{nth-put-here, nth-put-other}
 use Rattle.model.specs.Tags.{Tag}
 use Rattle.model.specs.Cipher.{Cipher}
-use Rattle.model.specs.CipherLaws.{Sized, CipherLaws}
-use Rattle.model.specs.Lines.{lineAt, putLine, macAt, seen, stored, signed, passes}
+use Rattle.model.specs.CipherLaws.{CipherLaws}
+use Rattle.model.specs.Lines.{lineAt, putLine, macAt, seen, passes}
 use Rattle.model.specs.Placement.{Entry, Placement, holding}
 use Rattle.model.specs.PlacementLaws.{PlacementLaws}
 use Rattle.model.specs.Uncached.{Uncached}
@@ -21,7 +20,7 @@ use Rattle.model.specs.Cached.{Cached, fillPlace}
 use Rattle.model.proofs.LineLaws.{line-length, seen-length}
 use Rattle.keeps.specs.Good.{Good}
 use Rattle.keeps.proofs.Access.{Placed, fill-placed}
-use Rattle.agree.specs.Agree.{Held, HeldAt, Free, Same, Agree}
+use Rattle.agree.specs.Agree.{Free, Same, Agree}
 use Rattle.agree.proofs.Update.{update-agrees}
 
 -- a state with one slot's bytes and the directory replaced

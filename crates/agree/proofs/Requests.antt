@@ -1,21 +1,19 @@
 -- Every fair request is answered alike by both memories, and so is every sound program: the abstract step of demand 3.
-use Prim.Native.Nat.{ℕ, _*_, _<_}
-use mathlib.Core.Path.{_≡_, refl, sym, ap, _∙_, subst}
-use mathlib.Core.Bool.{Bool, true, false}
+use Prim.Native.Nat.{ℕ}
+use mathlib.Core.Path.{_≡_, refl, ap}
+use mathlib.Core.Bool.{true, false}
 use mathlib.Core.List.{List}
-use mathlib.Core.Option.{none, some}
-use lib.ListN.{length}
+use mathlib.Core.Option.{some}
 use Rattle.lists.specs.Bytes.{zeros}
 use Rattle.lists.proofs.ByteLaws.{length-zeros, bytes-zeros}
 use Rattle.model.specs.Cipher.{Cipher}
 use Rattle.model.specs.CipherLaws.{Sized, CipherLaws}
-use Rattle.model.specs.Lines.{lineAt}
 use Rattle.model.specs.Placement.{Placement}
 use Rattle.model.specs.PlacementLaws.{PlacementLaws}
-use Rattle.model.specs.Requests.{Request, access, evict, busRead, busWrite, busMac, writeBack, rekey, Reply, Prog, ret, ask, Handled, Memory, Ran, perform}
+use Rattle.model.specs.Requests.{Request, access, evict, busRead, busWrite, busMac, writeBack, rekey, Prog, ret, ask, Handled, Ran, perform}
 use Rattle.model.specs.Uncached.{Uncached, uncachedHandle, uncached}
 use Rattle.model.specs.Cached.{Cached, accessPlace, readyPlace, evictLine, evictAll, cachedHandle, cached}
-use Rattle.agree.specs.Agree.{Free, Agree}
+use Rattle.agree.specs.Agree.{Agree}
 use Rattle.keeps.specs.Sound.{Fair, fair-access, fair-evict, fair-busRead, fair-busWrite, fair-busMac, fair-writeBack, fair-rekey, Sound, sound-ret, sound-ask}
 use Rattle.agree.proofs.Access.{ready, reply-alike, state-alike}
 use Rattle.agree.proofs.Bus.{drop-agrees, drop-frees, bus-agrees}

@@ -1,20 +1,19 @@
 -- Every call of the host is answered alike by the two machines, and leaves machines that agree.
-use Prim.Native.Nat.{ℕ, zero, suc, _+_, _*_, _/_, _<_, _≤_}
+use Prim.Native.Nat.{ℕ, zero, suc, _+_, _*_, _/_}
 use native.Mathlib.Omega.{arith}
 use mathlib.Core.Path.{_≡_, refl, sym, ap, ap₂, _∙_, subst}
-use mathlib.Core.Bool.{Bool, true, false, not, _&&_}
-use mathlib.Core.List.{List, [], _∷_, _++_}
-use mathlib.Core.Option.{none, some}
+use mathlib.Core.Bool.{Bool, true, false}
+use mathlib.Core.List.{List, []}
 use lib.ListN.{length}
-use lib.Dec.{eqb, leb}
-use borrow.Author.Tests.{eqb-true, eqb-false, eq-eqb, leb-false, not-false}
+use lib.Dec.{eqb}
+use borrow.Author.Tests.{eqb-true, eq-eqb}
 use Rattle.lists.specs.If.{if}
 use Rattle.lists.specs.Bytes.{Bytes}
 use Rattle.lists.proofs.Cases.{by-test}
 use Rattle.model.specs.Cipher.{Cipher}
-use Rattle.model.specs.CipherLaws.{Sized, CipherLaws}
+use Rattle.model.specs.CipherLaws.{CipherLaws}
 use Rattle.model.specs.Log.{Note}
-use Rattle.model.specs.Requests.{Request, evict, writeBack, Reply, Prog, Memory, Ran, perform}
+use Rattle.model.specs.Requests.{Request, evict, writeBack, Reply, Prog, perform}
 use Rattle.model.specs.Uncached.{Uncached, uncachedHandle, uncached}
 use Rattle.model.specs.Cached.{Cached, cachedHandle, cached, loseAll, asItStands}
 use Rattle.agree.specs.Agree.{Agree}
@@ -27,15 +26,11 @@ use Rattle.instructions.specs.Record.{Processor, reset}
 use Rattle.instructions.specs.Suspend.{entered}
 use Rattle.instructions.specs.Step.{Stepped, instruction}
 use Rattle.instructions.specs.Refusals.{orElse, memoryFlaws, cacheFlaws, cachedFlaws, uncachedFlaws, recordFlaws, lineFlaws, bufferFlaws}
-use Rattle.instructions.specs.Calls.{Call, run, interrupt, busRead, busWrite, busMac, evictLine, writeBackAll, reboot, powerCut, bufferOf, callFlaws, Machine, Result, Setup, cachedSetup, uncachedSetup, refusal, step, runFrom, asked, changed, replied, accepted, refused, called}
-use Rattle.demand3.specs.BoardLaws.{BoardLaws}
+use Rattle.instructions.specs.Calls.{Call, run, interrupt, busRead, busWrite, busMac, evictLine, writeBackAll, reboot, powerCut, bufferOf, callFlaws, Machine, Result, cachedSetup, uncachedSetup, refusal, step, runFrom, asked, changed, replied, accepted, refused, called}
+use Rattle.sound.specs.BoardLaws.{BoardLaws}
 use Rattle.demand3.specs.Statement.{withCache, withoutCache, Agreeing}
-use Rattle.demand3.proofs.Sound.{none-first, instruction-sound}
-
--- neither of two numbers, of which the second counts where the first is 0
-or-else-zero : (a b : ℕ) → orElse a b ≡ 0 → b ≡ 0
-unfolding orElse
-or-else-zero a b z = by-test (eqb a 0) (λ h. rw h at z) (λ h. absurd (eqb-false a 0 h (rw h at z)))
+use Rattle.sound.proofs.Programs.{instruction-sound}
+use Rattle.sound.proofs.Refused.{line-in, buffer-sized, none-refused}
 
 module _ (B : Board) (BL : BoardLaws B) (c : Cipher) (CL : CipherLaws c) (N C : ℕ) (slots : B .slotsFine C ≡ true) where
   -- two results that are alike, of machines that agree
@@ -92,21 +87,6 @@ module _ (B : Board) (BL : BoardLaws B) (c : Cipher) (CL : CipherLaws c) (N C : 
   unfolding changed
   changed-alike ru rs u s e A = record { answers = refl; steps = refl; buffers = refl; machines = record { processors = e; memories = A } }
 
-  -- a line that is not refused is a line of memory, and a buffer that is not refused has its size
-  pub line-in : (M n : ℕ) (rest : List (Bool × ℕ)) → M ≡ N * 64 → firstOf (lineFlaws M n ++ rest) ≡ 0 → (n < N) × (firstOf rest ≡ 0)
-  unfolding lineFlaws
-  line-in M n rest e z =
-      let a = none-first (leb (M / 64) n) 106 (firstOf rest) (λ q. omega arith) z in
-      let l : n < M / 64 = leb-false (M / 64) n (a .0) in
-      let h : n < N = omega arith in
-      (h, a .1)
-
-  pub buffer-sized : (k : ℕ) (x : List ℕ) → firstOf (bufferFlaws k x) ≡ 0 → Bytes x → Sized k x
-  unfolding bufferFlaws
-  buffer-sized k x z b =
-      let a = none-first (not (eqb (length x) k)) 107 0 (λ q. omega arith) z in
-      record { size = eqb-true (length x) k (not-false (eqb (length x) k) (a .0)); bytes = b }
-
   -- a call that is not refused
   accepted-alike : (call : Call) (u : Machine Uncached) (s : Machine Cached) → Bytes (bufferOf call) → firstOf (callFlaws (length (s .memory .mem)) call) ≡ 0 → Agreeing B BL c N C u s
       → ResultsAlike (accepted B c (uncachedSetup c (asItStands (accepted B c (cachedSetup B c) call s .machine .memory))) call u) (accepted B c (cachedSetup B c) call s)
@@ -117,16 +97,16 @@ module _ (B : Board) (BL : BoardLaws B) (c : Cipher) (CL : CipherLaws c) (N C : 
       (ap₂ (λ (k : List ℕ) (r : Processor). entered B c k 32 r) (G .memories .keys) (G .processors)) (G .memories)
   accepted-alike (busRead n x) u s b z G =
       asked-alike _ (Request.busRead n) (u .processor) (s .processor) (replied x) (u .memory) (s .memory)
-      (fair-busRead (line-in (length (s .memory .mem)) n (bufferFlaws 64 x) (G .memories .good .mem) z .0)) (G .processors) (G .memories)
+      (fair-busRead (line-in N (length (s .memory .mem)) n (bufferFlaws 64 x) (G .memories .good .mem) z .0)) (G .processors) (G .memories)
   accepted-alike (busWrite n x) u s b z G =
-      let h = line-in (length (s .memory .mem)) n (bufferFlaws 64 x) (G .memories .good .mem) z in
+      let h = line-in N (length (s .memory .mem)) n (bufferFlaws 64 x) (G .memories .good .mem) z in
       asked-alike _ (Request.busWrite n x) (u .processor) (s .processor) (λ reply. x) (u .memory) (s .memory) (fair-busWrite (h .0) (buffer-sized 64 x (h .1) b)) (G .processors) (G .memories)
   accepted-alike (busMac n x) u s b z G =
-      let h = line-in (length (s .memory .mem)) n (bufferFlaws 16 x) (G .memories .good .mem) z in
+      let h = line-in N (length (s .memory .mem)) n (bufferFlaws 16 x) (G .memories .good .mem) z in
       asked-alike _ (Request.busMac n x) (u .processor) (s .processor) (λ reply. x) (u .memory) (s .memory) (fair-busMac (h .0) (buffer-sized 16 x (h .1) b)) (G .processors) (G .memories)
   accepted-alike (evictLine n) u s b z G =
       asked-alike _ (evict n) (u .processor) (s .processor) (λ reply. []) (u .memory) (s .memory)
-      (fair-evict (line-in (length (s .memory .mem)) n [] (G .memories .good .mem) z .0)) (G .processors) (G .memories)
+      (fair-evict (line-in N (length (s .memory .mem)) n [] (G .memories .good .mem) z .0)) (G .processors) (G .memories)
   accepted-alike writeBackAll u s b z G =
       asked-alike _ writeBack (u .processor) (s .processor) (λ reply. []) (u .memory) (s .memory) fair-writeBack (G .processors) (G .memories)
   accepted-alike reboot u s b z G =
@@ -150,22 +130,15 @@ module _ (B : Board) (BL : BoardLaws B) (c : Cipher) (CL : CipherLaws c) (N C : 
       let sizes : length (u .memory .mem) ≡ length (s .memory .mem) = G .memories .plainMem .size ∙ sym (G .memories .good .mem) in
       λ i. orElse (flaws-alike (u .memory) (s .memory) (G .memories) i) (orElse (firstOf (recordFlaws (G .processors i))) (firstOf (callFlaws (sizes i) call)))
 
-  -- a call that is not refused is not refused for its line, buffer or n
-  pub none-refused : (call : Call) (s : Machine Cached) → refusal (cachedSetup B c) call s ≡ 0 → firstOf (callFlaws (length (s .memory .mem)) call) ≡ 0
-  unfolding refusal cachedSetup cached
-  none-refused call s z =
-      or-else-zero (firstOf (recordFlaws (s .processor))) (firstOf (callFlaws (length (s .memory .mem)) call))
-      (or-else-zero (firstOf (cachedFlaws B (s .memory))) (orElse (firstOf (recordFlaws (s .processor))) (firstOf (callFlaws (length (s .memory .mem)) call))) z)
-
   -- every call is answered alike
   pub called-alike : (call : Call) (u : Machine Uncached) (s : Machine Cached) → Bytes (bufferOf call) → Agreeing B BL c N C u s → ResultsAlike (withoutCache B c call u (withCache B c call s)) (withCache B c call s)
-  unfolding withoutCache withCache called refused
+  unfolding withoutCache withCache called refused cachedSetup cached
   called-alike call u s b G =
       let n = refusal (cachedSetup B c) call s in
       by-test (eqb n 0)
       (λ h.
       rw (h, refusal-alike (asItStands (accepted B c (cachedSetup B c) call s .machine .memory)) call u s G, h)
-      (accepted-alike call u s b (none-refused call s (eqb-true n 0 h)) G))
+      (accepted-alike call u s b (none-refused (cachedSetup B c) call s (eqb-true n 0 h)) G))
       (λ h.
       rw (h, refusal-alike (asItStands (refused n call s .machine .memory)) call u s G, h)
       (record { answers = refl; steps = refl; buffers = refl; machines = G }))

@@ -1,28 +1,22 @@
 -- Demand 3, proved: from machines that agree, under every sequence of calls, nothing tells them apart; and which machines agree.
-use Prim.Native.Nat.{ℕ, _*_, _/_, _≤_}
-use native.Mathlib.Omega.{arith}
-use mathlib.Core.Path.{_≡_, refl, sym, ap, _∙_, subst}
-use mathlib.Core.Bool.{Bool, true, false, not, _&&_}
+use Prim.Native.Nat.{ℕ, _/_}
+use mathlib.Core.Path.{_≡_, refl}
+use mathlib.Core.Bool.{true}
 use mathlib.Core.List.{List, [], _∷_}
 use lib.ListN.{length}
-use lib.Dec.{eqb, leb}
-use borrow.Author.Tests.{eqb-true, leb-true, not-false}
-use Rattle.lists.specs.Bytes.{Bytes}
-use Rattle.lists.proofs.Cases.{both-hold}
 use Rattle.model.specs.Cipher.{Cipher}
-use Rattle.model.specs.CipherLaws.{Sized, CipherLaws}
+use Rattle.model.specs.CipherLaws.{CipherLaws}
 use Rattle.model.specs.Uncached.{Uncached}
 use Rattle.model.specs.Cached.{Cached, evictAll, asItStands}
 use Rattle.agree.specs.Agree.{Agree, AllEmpty}
 use Rattle.agree.proofs.Everything.{all-agrees, all-empties, same-mem, same-macs, fresh-agrees}
-use Rattle.instructions.specs.Rules.{firstOf}
 use Rattle.instructions.specs.Board.{Board}
-use Rattle.instructions.specs.Record.{Processor}
-use Rattle.instructions.specs.Refusals.{sizeFine, memoryFlaws, cacheFlaws, cachedFlaws}
-use Rattle.instructions.specs.Calls.{Call, Machine, Result, bufferOf}
-use Rattle.demand3.specs.BoardLaws.{BoardLaws}
-use Rattle.demand3.specs.Statement.{writtenBack, withCache, withoutCache, SameOutside, AlwaysSame, ended, next, LentBytes, no-more, bytes-then, Startable, Agreeing, Demand3, CallsKeepAgreement}
-use Rattle.demand3.proofs.Lent.{lent-good}
+use Rattle.instructions.specs.Calls.{Call, Machine, Result}
+use Rattle.sound.specs.BoardLaws.{BoardLaws}
+use Rattle.demand3.specs.Statement.{writtenBack, withCache, withoutCache, SameOutside, AlwaysSame, ended, next, LentBytes, no-more, bytes-then, Agreeing, Demand3, CallsKeepAgreement, CallsKeepAcceptable, TwoLines, StepBound, RunBound, CallBound}
+use Rattle.sound.proofs.Lent.{lent-good}
+use Rattle.sound.proofs.Kept.{calls-keep-acceptable}
+use Rattle.sound.proofs.Bounds.{two-lines, step-bound, run-bound, call-bound}
 use Rattle.demand3.proofs.Calls.{ResultsAlike, called-alike}
 
 module _ (B : Board) (BL : BoardLaws B) (c : Cipher) (CL : CipherLaws c) (N C : ℕ) (slots : B .slotsFine C ≡ true) where
@@ -71,3 +65,21 @@ demand3 B BL c CL s Z r calls bs =
 -- every call keeps the agreement
 pub calls-keep-agreement : CallsKeepAgreement
 calls-keep-agreement B BL c CL N C slots call u s b G = called-alike B BL c CL N C slots call u s b G .machines
+
+-- what the calls keep, and the bounds on the counts
+pub acceptable-kept : CallsKeepAcceptable
+unfolding withCache
+acceptable-kept = calls-keep-acceptable
+
+pub two-lines-bound : TwoLines
+two-lines-bound = two-lines
+
+pub one-step-bound : StepBound
+one-step-bound = step-bound
+
+pub whole-run-bound : RunBound
+whole-run-bound = run-bound
+
+pub any-call-bound : CallBound
+unfolding withCache
+any-call-bound = call-bound

@@ -1,41 +1,27 @@
--- The board of document 01 is lawful, and demand 3 holds for it from reset.
-use Prim.Native.Nat.{ℕ, _+_, _*_, _/_, _%_, _≤_, _<_}
+-- Demand 3 for the board of document 01, from reset.
+use Prim.Native.Nat.{ℕ, _*_, _/_, _%_, _≤_}
 use native.Mathlib.Omega.{arith}
-use mathlib.Core.Path.{_≡_, refl, sym, ap, _∙_, subst}
-use mathlib.Core.Bool.{Bool, true, false, not, _&&_}
-use mathlib.Core.List.{List, [], _∷_}
-use lib.ListN.{length, getD}
+use mathlib.Core.Path.{_≡_, refl}
+use mathlib.Core.Bool.{true, _&&_}
+use lib.ListN.{length}
 use lib.Dec.{eqb, leb}
 use borrow.Author.Tests.{eq-eqb, leb-true, le-leb}
-use Rattle.lists.specs.Bytes.{Bytes, zeros}
+use Rattle.lists.specs.Bytes.{zeros}
 use Rattle.lists.proofs.ByteLaws.{length-zeros, getD-zeros}
 use Rattle.lists.proofs.Cases.{both-hold}
-use Rattle.model.specs.Cipher.{Cipher}
-use Rattle.model.specs.CipherLaws.{Sized, CipherLaws}
 use Rattle.model.specs.Cached.{Cached, asItStands}
 use Rattle.agree.specs.Agree.{AllEmpty}
-use Rattle.directory.specs.Numbers.{usedOf, entryOf}
-use Rattle.directory.specs.Direct.{direct, allFine, OrderlyDirect}
-use Rattle.directory.proofs.DirectLaws.{direct-laws, zero-fine, zero-unused}
-use Rattle.directory.proofs.Scan.{scan-orderly, orderly-scan, zeros-orderly}
+use Rattle.directory.specs.Numbers.{entryOf}
+use Rattle.directory.specs.Direct.{direct, allFine}
+use Rattle.directory.proofs.DirectLaws.{zero-unused}
+use Rattle.directory.proofs.Scan.{orderly-scan, zeros-orderly}
 use Rattle.instructions.specs.Rules.{firstOf}
-use Rattle.instructions.specs.Board.{Board, documentBoard}
+use Rattle.instructions.specs.Board.{documentBoard}
 use Rattle.instructions.specs.Record.{reset}
 use Rattle.instructions.specs.Refusals.{sizeFine, memoryFlaws, cacheFlaws, cachedFlaws}
-use Rattle.demand3.specs.BoardLaws.{BoardLaws}
-use Rattle.demand3.specs.Statement.{Startable, Demand3FromReset}
+use Rattle.sound.proofs.Document.{document-laws}
+use Rattle.demand3.specs.Statement.{Demand3FromReset}
 use Rattle.demand3.proofs.Demand3.{demand3}
-
-unfoldable pub document-laws : BoardLaws documentBoard
-unfolding documentBoard direct-laws
-document-laws =
-    record {
-      placement = direct-laws;
-      passed = λ N dir s l h. scan-orderly N dir (leb-true 1 (length dir) (both-hold (leb 1 (length dir)) (leb (length dir) 64) s .0)) l h;
-      passes = λ N dir o. orderly-scan N dir o;
-      words = 8;
-      wholeWords = refl;
-    }
 
 -- a directory of zeros is empty
 zeros-empty : (C : ℕ) → AllEmpty direct (zeros C)

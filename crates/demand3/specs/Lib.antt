@@ -1,2 +1,1 @@
-pub mod BoardLaws
 pub mod Statement

@@ -1,6 +1,6 @@
 -- The theorems as the customer reads them; their proofs are elsewhere. Two machines stand side by side, one with a cache and one without.
 -- What a reader must believe: the definitions of `instructions` (the machine) and of `model` (its two memories), and this page.
-use Prim.Native.Nat.{ℕ, _+_, _*_, _/_, _≤_, _<_}
+use Prim.Native.Nat.{ℕ, _+_, _*_, _/_, _≤_}
 use mathlib.Core.Path.{_≡_}
 use mathlib.Core.Logic.{_≢_}
 use mathlib.Core.Bool.{true}
@@ -9,20 +9,19 @@ use lib.ListN.{length}
 use Rattle.lists.specs.Bytes.{Bytes, zeros}
 use Rattle.model.specs.Cipher.{Cipher}
 use Rattle.model.specs.CipherLaws.{Sized, CipherLaws}
-use Rattle.model.specs.Requests.{perform}
 use Rattle.model.specs.Uncached.{Uncached}
-use Rattle.model.specs.Cached.{Cached, evictAll, asItStands, cached}
+use Rattle.model.specs.Cached.{Cached, evictAll, asItStands}
+use Rattle.keeps.specs.Good.{MadeOfBytes}
 use Rattle.keeps.specs.Within.{Within}
 use Rattle.agree.specs.Agree.{Agree, AllEmpty}
 use Rattle.instructions.specs.Rules.{firstOf}
 use Rattle.instructions.specs.Board.{Board, documentBoard}
 use Rattle.instructions.specs.Record.{Processor, reset}
 use Rattle.instructions.specs.Fields.{opcode}
-use Rattle.instructions.specs.Wishes.{grant}
-use Rattle.instructions.specs.Step.{fetchWish}
-use Rattle.instructions.specs.Refusals.{sizeFine, cachedFlaws, recordFlaws}
-use Rattle.instructions.specs.Calls.{Call, bufferOf, Machine, Result, cachedSetup, uncachedSetup, step, runFrom, called}
-use Rattle.demand3.specs.BoardLaws.{BoardLaws}
+use Rattle.instructions.specs.Refusals.{sizeFine, cachedFlaws}
+use Rattle.instructions.specs.Calls.{Call, reboot, powerCut, bufferOf, Machine, Result, cachedSetup, uncachedSetup, step, runFrom, called}
+use Rattle.sound.specs.BoardLaws.{BoardLaws}
+use Rattle.sound.specs.Acceptable.{Acceptable, fetched}
 
 -- ---- the two machines
 
@@ -88,6 +87,18 @@ Demand3FromReset =
     (record { processor = reset documentBoard srh; memory = record { key = drk; mem = mem; macs = macs } })
     (record { processor = reset documentBoard srh; memory = record { key = drk; mem = mem; macs = macs; cache = zeros (C * 64); dir = zeros C } })
 
+-- whatever was lent, as far as it is accepted and made of bytes: behind a reboot one can start
+abbrev pub RebootStarts : Type 1
+RebootStarts =
+    (B : Board) → BoardLaws B → (c : Cipher) → CipherLaws c → (m : Machine Cached) → Acceptable B m → MadeOfBytes (m .memory)
+    → Startable B (withCache B c reboot m .machine .memory)
+
+-- and so behind a power cut
+abbrev pub CutStarts : Type 1
+CutStarts =
+    (B : Board) → BoardLaws B → (c : Cipher) → CipherLaws c → (m : Machine Cached) → Acceptable B m → MadeOfBytes (m .memory)
+    → Startable B (withCache B c powerCut m .machine .memory)
+
 -- ---- 2: what is kept
 
 -- two machines that agree: the same record, and memories that agree line by line
@@ -102,11 +113,6 @@ CallsKeepAgreement =
     → (call : Call) (u : Machine Uncached) (s : Machine Cached) → Bytes (bufferOf call) → Agreeing B BL c N C u s
     → Agreeing B BL c N C (withoutCache B c call u (withCache B c call s) .machine) (withCache B c call s .machine)
 
--- a machine to which none of refusals 101 to 105 applies
-pub record Acceptable (B : Board) (m : Machine Cached) : Type 0 where
-  pub memory : firstOf (cachedFlaws B (m .memory)) ≡ 0
-  pub processor : firstOf (recordFlaws (m .processor)) ≡ 0
-
 -- every call leaves an acceptable machine acceptable, whatever its slots hold
 abbrev pub CallsKeepAcceptable : Type 1
 CallsKeepAcceptable =
@@ -115,21 +121,24 @@ CallsKeepAcceptable =
 
 -- ---- 3: bounds on the counts
 
--- the instruction word that a step fetches, 0 where it fetches none
-unfoldable pub fetched : Board → Cipher → Machine Cached → ℕ
-fetched B c m = perform (cached c (B .placement)) (grant (fetchWish (length (m .memory .mem)) (m .processor))) (m .memory) .out .number
-
 -- no instruction but drk.set (opcode 32) fills or writes more than two lines
 abbrev pub TwoLines : Type 0
 TwoLines = (B : Board) (c : Cipher) (m : Machine Cached) → opcode (fetched B c m) ≢ 32 → Within 2 2 (step B c (cachedSetup B c) m .log)
 
--- an instruction fills at most two lines and writes at most two more than the cache has slots; so a run of n has at most n times that
+-- any instruction fills at most two lines and writes at most two more than the cache has slots
 abbrev pub StepBound : Type 1
 StepBound =
     (B : Board) → BoardLaws B → (c : Cipher) → CipherLaws c → (m : Machine Cached) → Acceptable B m
     → Within 2 (length (m .memory .dir) + 2) (step B c (cachedSetup B c) m .log)
 
+-- a run of n counts at most n times that
 abbrev pub RunBound : Type 1
 RunBound =
     (B : Board) → BoardLaws B → (c : Cipher) → CipherLaws c → (n : ℕ) (m : Machine Cached) → Acceptable B m
     → Within (n * 2) (n * (length (m .memory .dir) + 2)) (runFrom B c (cachedSetup B c) n 0 m .log)
+
+-- no call counts more than this
+abbrev pub CallBound : Type 1
+CallBound =
+    (B : Board) → BoardLaws B → (c : Cipher) → CipherLaws c → (m : Machine Cached) → Acceptable B m → (call : Call)
+    → Within 20000 (10000 * (length (m .memory .dir) + 2)) (withCache B c call m .log)

@@ -1,21 +1,19 @@
 -- The direct-mapped placement satisfies what a placement must satisfy.
-use Prim.Native.Nat.{ℕ, zero, suc, _+_, _/_, _%_, _<_, _≤_}
+use Prim.Native.Nat.{ℕ, _/_, _%_, _<_}
 use native.Mathlib.Nat.{mod-lt}
 use native.Mathlib.Omega.{arith}
-use mathlib.Core.Path.{_≡_, refl, sym, ap, _∙_, subst}
-use mathlib.Core.Logic.{_≢_}
-use mathlib.Core.Bool.{Bool, true, false, _&&_, _||_, not, false≢true}
-use mathlib.Core.List.{List, [], _∷_}
+use mathlib.Core.Path.{_≡_, refl, sym}
+use mathlib.Core.Bool.{true, false, _&&_, _||_, not, false≢true}
+use mathlib.Core.List.{List}
 use lib.ListN.{length, getD, set, length-set}
 use lib.Seq.{getD-set-same, getD-set-other}
 use lib.Dec.{eqb, leb, ltb}
 use borrow.Author.Tests.{eqb-true}
 use Rattle.lists.proofs.Cases.{by-eq, by-test, both-hold}
-use Rattle.model.specs.Tags.{Tag}
-use Rattle.model.specs.Placement.{Entry, Placement, holding}
-use Rattle.model.specs.PlacementLaws.{Tame, PlacementLaws}
-use Rattle.directory.specs.Numbers.{usedOf, tagOf, dirtyOf, lineOf, entryOf, numberOf, isNumber}
-use Rattle.directory.specs.Direct.{direct, fine, allFine, OrderlyDirect}
+use Rattle.model.specs.Placement.{holding}
+use Rattle.model.specs.PlacementLaws.{PlacementLaws}
+use Rattle.directory.specs.Numbers.{usedOf, dirtyOf, lineOf, entryOf, numberOf, isNumber}
+use Rattle.directory.specs.Direct.{direct, fine, OrderlyDirect}
 use Rattle.directory.proofs.NumberLaws.{entry-number, Right, fine-used, number-fine}
 
 module _ {N : ℕ} (d : List ℕ) (p : ℕ) (o : OrderlyDirect N d) (hp : p < length d) where

@@ -1,14 +1,14 @@
 -- Packing an entry into a number and looking at it again.
 use Prim.Native.Nat.{ℕ, _+_, _*_, _/_, _%_, _<_, _≤_}
 use native.Mathlib.Omega.{arith}
-use mathlib.Core.Path.{_≡_, refl, sym, ap, _∙_}
+use mathlib.Core.Path.{_≡_, refl}
 use mathlib.Core.Bool.{Bool, true, false, _&&_, _||_, not, false≢true}
-use lib.Dec.{eqb, leb, ltb}
-use borrow.Author.Tests.{eq-eqb, ne-eqb, eqb-true, eqb-false, le-leb, lt-ltb, ltb-true, leb-true}
+use lib.Dec.{eqb, ltb}
+use borrow.Author.Tests.{eq-eqb, ne-eqb, eqb-true, le-leb, lt-ltb, ltb-true}
 use Rattle.lists.specs.If.{if}
 use Rattle.lists.proofs.Cases.{both-hold}
 use Rattle.model.specs.Tags.{Tag, noTag, secureInstruction, secureData, tagNumber}
-use Rattle.model.specs.Placement.{Entry, empty, holding}
+use Rattle.model.specs.Placement.{empty, holding}
 use Rattle.model.specs.PlacementLaws.{Tame}
 use Rattle.directory.specs.Numbers.{usedOf, tagOf, dirtyOf, lineOf, entryOf, numberOf, isNumber}
 use Rattle.directory.specs.Direct.{fine}

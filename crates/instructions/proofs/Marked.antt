@@ -1,23 +1,23 @@
 -- P1 to P12, proved together.
-use Prim.Native.Nat.{ℕ, _+_, _*_, _-_, _^_}
+use Prim.Native.Nat.{ℕ}
 use mathlib.Core.Path.{_≡_, refl, ap, ap₂, _∙_}
-use mathlib.Core.Bool.{Bool, true, false}
-use mathlib.Core.List.{List, [], _∷_, _++_}
+use mathlib.Core.Bool.{true, false}
+use mathlib.Core.List.{List}
 use lib.ListN.{length}
 use lib.Count.{leadingZeros}
 use Rattle.lists.specs.Bytes.{zeros, same}
 use Rattle.lists.specs.Parts.{partAt, putAt}
-use Rattle.lists.specs.Words.{little, littleBytes, bigBytes, big}
+use Rattle.lists.specs.Words.{little, littleBytes}
 use Rattle.model.specs.Tags.{secureInstruction}
 use Rattle.model.specs.Cipher.{Cipher}
 use Rattle.model.specs.Lines.{lineAt, putLine, macAt, putMac, seen, stored, signed, passes}
 use Rattle.model.specs.Requests.{Ran, perform, andThen}
 use Rattle.model.specs.Uncached.{Uncached, uncachedHandle, uncached}
 use Rattle.instructions.specs.Board.{documentBoard, modulus, opcodeTable}
-use Rattle.instructions.specs.Record.{Processor, reg, withReg, active}
+use Rattle.instructions.specs.Record.{reg, withReg, active}
 use Rattle.instructions.specs.Fields.{opcode, fieldA, fieldB, fieldC, imm, sel, exists, needsActive}
-use Rattle.instructions.specs.Operations.{Ra, Rb, Rc, address, hasValue, value, keyFrom, nextBuffer, nextMode, taken, target, behind, nextPc, executed}
-use Rattle.instructions.specs.Suspend.{suspended, entered, resumes, restored, hashRight, returned}
+use Rattle.instructions.specs.Operations.{Ra, Rb, Rc, address, hasValue, value, nextMode, taken, target, behind, nextPc, executed}
+use Rattle.instructions.specs.Suspend.{entered}
 use Rattle.instructions.specs.Faults.{fetchFault, selListed, hasAddress, decodeFault, lateFault}
 use Rattle.instructions.specs.Wishes.{Wish, idle, Got, gotFrom, grant}
 use Rattle.instructions.specs.Step.{Stepped, fetchWish, knownFault, dataWish, finished, instruction}

@@ -1,7 +1,7 @@
 -- A memory runs an instruction in two phases, the fetch and the data access, and the rest is pure.
 use Prim.Native.Nat.{ℕ}
-use mathlib.Core.Path.{_≡_, refl, sym, ap, _∙_}
-use mathlib.Core.List.{List, [], _∷_, _++_, append-nil}
+use mathlib.Core.Path.{_≡_, ap, _∙_}
+use mathlib.Core.List.{List, _++_, append-nil}
 use Rattle.model.specs.Cipher.{Cipher}
 use Rattle.model.specs.Log.{Note}
 use Rattle.model.specs.Requests.{Prog, ret, andThen, Memory, Ran, perform}

@@ -1,27 +1,27 @@
 -- Every step, interrupt and reset leaves R0 zero and the mode at most 2.
-use Prim.Native.Nat.{ℕ, zero, suc, _≤_}
+use Prim.Native.Nat.{ℕ, _≤_}
 use native.Mathlib.Omega.{arith}
-use mathlib.Core.Path.{_≡_, refl, sym, ap, _∙_, subst}
+use mathlib.Core.Path.{_≡_, refl, sym, _∙_}
 use mathlib.Core.Bool.{Bool, true, false, not, _||_}
 use mathlib.Core.List.{List, [], _∷_}
-use lib.ListN.{length, getD, set}
+use lib.ListN.{getD}
 use lib.Seq.{getD-set-other}
 use lib.Dec.{eqb, ltb}
 use borrow.Author.Tests.{eqb-true, eqb-false, eq-eqb, ltb-false, le-ltb, not-false}
+use Rattle.lists.specs.Words.{xoredBehind}
 use Rattle.lists.specs.If.{if}
-use Rattle.lists.specs.Bytes.{zeros}
 use Rattle.lists.proofs.Cases.{by-test}
 use Rattle.lists.proofs.ByteLaws.{getD-zeros}
 use Rattle.model.specs.Cipher.{Cipher}
-use Rattle.instructions.specs.Rules.{firstOf, pick}
+use Rattle.instructions.specs.Rules.{firstOf}
 use Rattle.instructions.specs.Board.{Board}
 use Rattle.instructions.specs.Record.{Processor, reg, withReg, withThread, active, reset, Sane}
 use Rattle.instructions.specs.Fields.{opcode, fieldA}
 use Rattle.instructions.specs.Operations.{hasValue, value, nextMode, executed}
-use Rattle.instructions.specs.Suspend.{hashOf, xored, hidden, suspended, entered, resumes, restored, returned}
+use Rattle.instructions.specs.Suspend.{hashOf, hidden, suspended, entered, resumes, restored, returned}
 use Rattle.instructions.specs.Faults.{lateFault}
 use Rattle.instructions.specs.Wishes.{Got}
-use Rattle.instructions.specs.Step.{knownFault, Stepped, finished}
+use Rattle.instructions.specs.Step.{knownFault, finished}
 use Rattle.instructions.specs.Refusals.{recordFlaws}
 
 -- refusal 105 lets exactly these records pass
@@ -46,7 +46,7 @@ with-zeroth n v regs =
 
 -- hiding leaves R0 as it was
 hidden-zeroth : (B : Board) (c : Cipher) (key hash regs : List ℕ) → getD (hidden B c key hash regs) 0 0 ≡ getD regs 0 0
-unfolding hidden
+unfolding hidden xoredBehind
 hidden-zeroth B c key hash [] = refl
 hidden-zeroth B c key hash (x ∷ l) = refl
 

@@ -1,37 +1,25 @@
 -- Traps met before, as small theorems: R0 is not hidden and a resume works; end_cem at offset 44 does not fall into the MAC; a run goes on.
-use Prim.Native.Nat.{ℕ, zero, suc, _+_, _*_, _/_, _%_}
-use mathlib.Core.Path.{_≡_, refl, sym, ap, ap₂, _∙_}
+use Prim.Native.Nat.{ℕ, suc, _+_, _*_, _/_, _%_}
+use mathlib.Core.Path.{_≡_, refl, ap, ap₂}
 use mathlib.Core.Bool.{Bool, true, false, _&&_, _||_}
 use mathlib.Core.List.{List, [], _∷_, _++_}
-use lib.Dec.{eqb, leb}
-use lib.Bits.{bitXor}
+use lib.Dec.{leb}
 use borrow.Author.Tests.{eq-eqb, ne-eqb}
 use Rattle.lists.specs.If.{if}
-use Rattle.lists.specs.Bytes.{same}
-use Rattle.lists.specs.Parts.{partAt}
-use Rattle.lists.specs.Words.{big}
 use Rattle.lists.proofs.ByteLaws.{same-refl}
-use Rattle.lists.proofs.Xor.{xor-undo}
+use Rattle.lists.proofs.Xor.{xoredBehind-undo}
 use Rattle.model.specs.Cipher.{Cipher}
-use Rattle.model.specs.Requests.{Ran}
 use Rattle.instructions.specs.Board.{Board, modulus}
 use Rattle.instructions.specs.Record.{Processor, withThread, active}
 use Rattle.instructions.specs.Fields.{opcode}
-use Rattle.instructions.specs.Operations.{nextMode, taken, target, behind, nextPc, executed}
-use Rattle.instructions.specs.Suspend.{hashOf, xored, hidden, suspended, entered, resumes, restored, hashRight, returned}
-use Rattle.instructions.specs.Step.{Stepped}
-use Rattle.instructions.specs.Calls.{Machine, Result, Setup, step, runFrom}
+use Rattle.instructions.specs.Operations.{nextMode, taken, behind, nextPc, executed}
+use Rattle.instructions.specs.Suspend.{hashOf, hidden, suspended, entered, resumes, restored, hashRight, returned}
+use Rattle.instructions.specs.Calls.{Machine, Setup, step, runFrom}
 
 -- what was hidden by a key stream comes back by it
-xored-undo : (k : ℕ) (stream : List ℕ) (i : ℕ) (l : List ℕ) → xored k stream i (xored k stream i l) ≡ l
-unfolding xored
-xored-undo k stream i [] = refl
-xored-undo k stream i (x ∷ l) = ap₂ _∷_ (xor-undo x (big (partAt i k stream))) (xored-undo k stream (i + k) l)
-
 hidden-undo : (B : Board) (c : Cipher) (key hash regs : List ℕ) → hidden B c key hash (hidden B c key hash regs) ≡ regs
 unfolding hidden
-hidden-undo B c key hash [] = refl
-hidden-undo B c key hash (x ∷ l) = ap (λ (r : List ℕ). x ∷ r) (xored-undo (B .wordBytes) (c .stream key hash) 0 l)
+hidden-undo B c key hash regs = xoredBehind-undo (B .wordBytes) (c .stream key hash) regs
 
 -- a thread that was suspended by a fault or an interrupt and is resumed as it stands has its registers, its mode and its pc again
 module _ (B : Board) (c : Cipher) (key : List ℕ) (n : ℕ) (r : Processor) (on : active r ≡ true) where

@@ -1,5 +1,5 @@
 -- What one board has and another may not: its word width, its table of opcodes, where its cache puts lines, and which caches it takes.
-use Prim.Native.Nat.{ℕ, _*_, _^_}
+use Prim.Native.Nat.{ℕ, _^_}
 use mathlib.Core.Bool.{Bool, _&&_}
 use mathlib.Core.List.{List, [], _∷_}
 use lib.ListN.{length}
@@ -7,6 +7,7 @@ use lib.Dec.{leb}
 use Rattle.model.specs.Placement.{Placement}
 use Rattle.directory.specs.Direct.{direct, allFine}
 
+-- a board
 pub record Board : Type 0 where
   -- the bytes of a word
   pub wordBytes : ℕ

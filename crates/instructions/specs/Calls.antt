@@ -1,14 +1,13 @@
 -- The calls of the host: each on any memory, so that the machine with a cache and the machine without one cannot differ in a call by mistake.
 use Prim.Native.Nat.{ℕ, zero, suc, _+_}
-use mathlib.Core.Bool.{Bool, true, false}
-use mathlib.Core.List.{List, [], _∷_, _++_, map}
+use mathlib.Core.Bool.{Bool}
+use mathlib.Core.List.{List, [], _++_}
 use mathlib.Core.Option.{none, some}
-use lib.ListN.{length}
 use lib.Dec.{eqb}
 use Rattle.lists.specs.If.{if}
 use Rattle.model.specs.Cipher.{Cipher}
 use Rattle.model.specs.Log.{Note, Counts, countsOf}
-use Rattle.model.specs.Requests.{Request, evict, writeBack, Reply, Prog, ret, ask, Memory, Ran, perform}
+use Rattle.model.specs.Requests.{Request, evict, writeBack, Reply, Memory, Ran, perform}
 use Rattle.model.specs.Uncached.{Uncached, uncached}
 use Rattle.model.specs.Cached.{Cached, cached}
 use Rattle.instructions.specs.Rules.{firstOf}

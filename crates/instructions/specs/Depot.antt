@@ -1,6 +1,6 @@
 -- The depot: code lines are signed, and data lines sealed or opened, in their buffers, under a given DRK and address.
 use Prim.Native.Nat.{ℕ, _%_}
-use mathlib.Core.Bool.{Bool, not, _&&_}
+use mathlib.Core.Bool.{Bool, not}
 use mathlib.Core.List.{List, [], _∷_, _++_}
 use lib.ListN.{take}
 use lib.Dec.{eqb}

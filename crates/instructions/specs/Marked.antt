@@ -2,7 +2,7 @@
 use Prim.Native.Nat.{ℕ, _+_, _*_, _-_, _^_}
 use mathlib.Core.Path.{_≡_}
 use mathlib.Core.Bool.{Bool, true, false}
-use mathlib.Core.List.{List, [], _∷_, _++_}
+use mathlib.Core.List.{_∷_}
 use lib.ListN.{length}
 use Rattle.lists.specs.Bytes.{zeros}
 use Rattle.lists.specs.Parts.{partAt, putAt}
@@ -15,7 +15,7 @@ use Rattle.instructions.specs.Board.{documentBoard}
 use Rattle.instructions.specs.Record.{Processor, reg}
 use Rattle.instructions.specs.Fields.{opcode, fieldA, fieldB, fieldC}
 use Rattle.instructions.specs.Step.{Stepped}
-use Rattle.instructions.specs.Calls.{Machine, uncachedSetup, step}
+use Rattle.instructions.specs.Calls.{uncachedSetup, step}
 
 -- an instruction word from its opcode, its registers a, b, c and its lowest bits
 unfoldable pub encoded : ℕ → ℕ → ℕ → ℕ → ℕ → ℕ
@@ -46,6 +46,7 @@ holdingWord w = record { key = zeros 16; mem = putAt 0 4 (littleBytes 4 w) (zero
 unfoldable pub stepOf : Cipher → ℕ → Bool → ℕ → ℕ → ℕ → Stepped
 stepOf c mode lock x y w = stepOn c (thread mode lock 0 x y) (holdingWord w)
 
+-- the twelve marked cases
 pub record Marked (c : Cipher) : Type 0 where
   -- all ones + 1 gives 0
   pub p1 : reg (stepOf c 0 false (2 ^ 64 - 1) 1 (encoded 1 3 1 2 0) .processor) 3 ≡ 0

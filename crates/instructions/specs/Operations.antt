@@ -15,13 +15,15 @@ use Rattle.instructions.specs.Board.{Board, modulus}
 use Rattle.instructions.specs.Record.{Processor, reg, withReg}
 use Rattle.instructions.specs.Fields.{opcode, fieldA, fieldB, fieldC, imm, sel}
 
--- Ra, Rb and Rc, as the instruction word names them
+-- the word in the register that field a names
 unfoldable pub Ra : Processor → ℕ → ℕ
 Ra r w = reg r (fieldA w)
 
+-- the word in the register that field b names
 unfoldable pub Rb : Processor → ℕ → ℕ
 Rb r w = reg r (fieldB w)
 
+-- the word in the register that field c names
 unfoldable pub Rc : Processor → ℕ → ℕ
 Rc r w = reg r (fieldC w)
 
@@ -85,6 +87,7 @@ target B r w = pick (opcode w) ((8, (r .pc + 4 * imm B w) % modulus B) ∷ (9, R
 unfoldable pub behind : Board → ℕ → Bool → ℕ
 behind B pc concealed = if (concealed && leb 44 (pc % 64)) ((pc / 64 * 64 + 64) % modulus B) ((pc + 4) % modulus B)
 
+-- the next pc: what a taken beq or jr sets, and otherwise the pc behind (rfi has its own rule)
 unfoldable pub nextPc : Board → Processor → ℕ → ℕ
 nextPc B r w = if (taken r w) (target B r w) (behind B (r .pc) (eqb (r .cem .mode) 1 || eqb (nextMode r w) 1))
 

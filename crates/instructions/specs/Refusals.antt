@@ -7,7 +7,6 @@ use lib.Dec.{eqb, leb, ltb}
 use Rattle.lists.specs.If.{if}
 use Rattle.model.specs.Uncached.{Uncached}
 use Rattle.model.specs.Cached.{Cached}
-use Rattle.instructions.specs.Rules.{firstOf}
 use Rattle.instructions.specs.Board.{Board}
 use Rattle.instructions.specs.Record.{Processor, reg}
 
@@ -48,9 +47,10 @@ runFlaws n = (ltb 10000 n, 108) ∷ []
 unfoldable pub rowFlaws : ℕ → List ℕ → List (Bool × ℕ)
 rowFlaws rows dir = (not (eqb rows (length dir)), 110) ∷ []
 
--- what is lent to the machine with a cache, and to the machine without one
+-- 101 to 104, for what is lent to the machine with a cache
 unfoldable pub cachedFlaws : Board → Cached → List (Bool × ℕ)
 cachedFlaws B s = memoryFlaws (length (s .mem)) (length (s .macs)) ++ cacheFlaws B (length (s .mem)) (length (s .cache)) (s .dir)
 
+-- 101 and 102, for what is lent to the machine without one
 unfoldable pub uncachedFlaws : Uncached → List (Bool × ℕ)
 uncachedFlaws s = memoryFlaws (length (s .mem)) (length (s .macs))

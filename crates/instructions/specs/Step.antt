@@ -1,10 +1,10 @@
 -- One instruction: fetch, decode, data access, effect. A fault leaves undone what the instruction would have done.
 use Prim.Native.Nat.{ℕ}
-use mathlib.Core.Bool.{Bool, true, false}
+use mathlib.Core.Bool.{true, false}
 use mathlib.Core.List.{List, [], _∷_}
 use lib.Dec.{eqb}
 use Rattle.lists.specs.If.{if}
-use Rattle.model.specs.Tags.{Tag, noTag, secureInstruction, secureData}
+use Rattle.model.specs.Tags.{noTag, secureInstruction, secureData}
 use Rattle.model.specs.Cipher.{Cipher}
 use Rattle.model.specs.Requests.{Prog, ret, andThen}
 use Rattle.instructions.specs.Rules.{pick}

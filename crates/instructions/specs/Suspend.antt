@@ -1,36 +1,23 @@
 -- Suspend and rfi: the registers are hashed and hidden when a fault or an interrupt meets active mode, and come back only unchanged.
-use Prim.Native.Nat.{ℕ, zero, suc, _+_, _*_}
+use Prim.Native.Nat.{ℕ}
 use mathlib.Core.Bool.{Bool, _&&_}
-use mathlib.Core.List.{List, [], _∷_, _++_}
+use mathlib.Core.List.{List, _∷_}
 use lib.ListN.{drop}
 use lib.Dec.{eqb}
-use lib.Bits.{bitXor}
 use Rattle.lists.specs.If.{if}
 use Rattle.lists.specs.Bytes.{same}
-use Rattle.lists.specs.Parts.{partAt}
-use Rattle.lists.specs.Words.{big, bigBytes}
+use Rattle.lists.specs.Words.{wordsBytes, xoredBehind}
 use Rattle.model.specs.Cipher.{Cipher}
 use Rattle.instructions.specs.Board.{Board}
 use Rattle.instructions.specs.Record.{Processor, withThread, active}
-
--- words as bytes, each high byte first
-unfoldable pub wordsBytes : ℕ → List ℕ → List ℕ
-wordsBytes k [] = []
-wordsBytes k (x ∷ l) = bigBytes k x ++ wordsBytes k l
 
 -- the hash of the registers: the MAC under the DRK of byte 4, R1..R31, each high byte first
 unfoldable pub hashOf : Board → Cipher → List ℕ → List ℕ → List ℕ
 hashOf B c key regs = c .mac key (4 ∷ wordsBytes (B .wordBytes) (drop 1 regs))
 
--- words xored with the key stream, each taking its bytes in turn, high first, from byte i on
-unfoldable pub xored : ℕ → List ℕ → ℕ → List ℕ → List ℕ
-xored k stream i [] = []
-xored k stream i (x ∷ l) = bitXor x (big (partAt i k stream)) ∷ xored k stream (i + k) l
-
 -- R1 to R31 hidden by the key stream of the hash, or brought back; R0 stays
 unfoldable pub hidden : Board → Cipher → List ℕ → List ℕ → List ℕ → List ℕ
-hidden B c key hash [] = []
-hidden B c key hash (zeroth ∷ rest) = zeroth ∷ xored (B .wordBytes) (c .stream key hash) 0 rest
+hidden B c key hash regs = xoredBehind (B .wordBytes) (c .stream key hash) regs
 
 -- an active thread is suspended: hash, then hide the registers, save pc, PID and CID, mode 2; any other record stays
 unfoldable pub suspended : Board → Cipher → List ℕ → Processor → Processor

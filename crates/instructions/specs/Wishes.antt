@@ -2,12 +2,13 @@
 use Prim.Native.Nat.{ℕ, _/_, _%_}
 use mathlib.Core.Bool.{Bool, true, false}
 use mathlib.Core.List.{List}
-use mathlib.Core.Option.{Option, none, some}
+use mathlib.Core.Option.{none, some}
 use Rattle.lists.specs.Parts.{partAt, putAt}
 use Rattle.lists.specs.Words.{little, littleBytes}
 use Rattle.model.specs.Tags.{Tag}
 use Rattle.model.specs.Requests.{Reply, Prog, ret, ask, access, rekey}
 
+-- a wish
 pub data Wish : Type 0 where
   -- nothing
   idle : Wish

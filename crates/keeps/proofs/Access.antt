@@ -1,10 +1,9 @@
 -- A hit, a fill and a change keep a memory good, and the place stays the line's own.
-use Prim.Native.Nat.{ℕ, _*_, _<_}
-use mathlib.Core.Path.{_≡_, refl, sym, ap, _∙_, subst}
-use mathlib.Core.Bool.{Bool, true, false, _&&_, false≢true}
+use Prim.Native.Nat.{ℕ, _<_}
+use mathlib.Core.Path.{_≡_, refl, _∙_, subst}
+use mathlib.Core.Bool.{Bool, true, false, _&&_}
 use mathlib.Core.List.{List}
 use lib.ListN.{length}
-use Rattle.lists.specs.If.{if}
 use Rattle.lists.specs.Bytes.{zeros}
 use Rattle.lists.proofs.ByteLaws.{length-zeros}
 use Rattle.lists.proofs.Cases.{by-test, both-hold}
@@ -13,7 +12,7 @@ use Rattle.model.specs.Tags.{Tag, secureInstruction}
 use Rattle.model.specs.Cipher.{Cipher}
 use Rattle.model.specs.CipherLaws.{CipherLaws}
 use Rattle.model.specs.Lines.{lineAt, putLine, macAt, seen, passes}
-use Rattle.model.specs.Placement.{Entry, Placement, holding}
+use Rattle.model.specs.Placement.{Placement, holding}
 use Rattle.model.specs.PlacementLaws.{PlacementLaws, Tame}
 use Rattle.model.specs.Cached.{Cached, serves, hitPlace, evictPlace, fillPlace, thenDo, readyPlace, writePlace, accessPlace}
 use Rattle.model.proofs.LineLaws.{line-length, seen-length}

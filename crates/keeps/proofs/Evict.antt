@@ -1,11 +1,10 @@
 -- What evicting does to the directory, and that it keeps a memory good.
-use Prim.Native.Nat.{ℕ, _*_, _<_}
-use mathlib.Core.Path.{_≡_, refl, sym, ap, _∙_, subst}
+use Prim.Native.Nat.{ℕ, _<_}
+use mathlib.Core.Path.{_≡_, _∙_}
 use mathlib.Core.Logic.{_≢_}
-use mathlib.Core.Bool.{Bool, true, false}
+use mathlib.Core.Bool.{true, false}
 use mathlib.Core.List.{List}
 use lib.ListN.{length}
-use Rattle.lists.specs.If.{if}
 use Rattle.lists.specs.Bytes.{zeros}
 use Rattle.lists.proofs.ByteLaws.{length-zeros}
 use Rattle.lists.proofs.Cases.{by-test}

@@ -2,3 +2,4 @@ pub mod Evict
 pub mod Access
 pub mod Requests
 pub mod Counts
+pub mod Bytes

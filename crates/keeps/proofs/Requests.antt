@@ -1,9 +1,8 @@
 -- Every fair request, every sound program and a power cut keep a memory good.
-use Prim.Native.Nat.{ℕ, zero, suc, _+_, _*_, _<_}
+use Prim.Native.Nat.{ℕ, zero, suc, _+_, _<_}
 use native.Mathlib.Omega.{arith}
-use mathlib.Core.Path.{_≡_, refl, sym, ap, _∙_, subst}
-use mathlib.Core.Bool.{Bool, true, false}
-use mathlib.Core.List.{List}
+use mathlib.Core.Path.{_≡_, refl, _∙_}
+use mathlib.Core.Bool.{true}
 use lib.ListN.{length}
 use Rattle.lists.specs.Bytes.{zeros}
 use Rattle.lists.proofs.ByteLaws.{length-zeros}

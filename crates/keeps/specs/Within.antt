@@ -3,6 +3,7 @@ use Prim.Native.Nat.{ℕ, _≤_}
 use mathlib.Core.List.{List}
 use Rattle.model.specs.Log.{Note, countsOf}
 
+-- the log counts within these bounds
 pub record Within (f w : ℕ) (log : List Note) : Type 0 where
   pub filled : countsOf log .filled ≤ f
   pub written : countsOf log .written ≤ w

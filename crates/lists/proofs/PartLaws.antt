@@ -1,13 +1,13 @@
 -- What is read from a list after a part of it was replaced, over the place and the size of the part.
-use Prim.Native.Nat.{ℕ, zero, suc, _+_, _-_, _*_, _≤_, _<_, min}
-use native.Mathlib.Nat.{suc-mul, zero-mul, zero-add, mul-le-mul-right, le-refl, le-of-suc-le-suc, add-sub-of-le}
+use Prim.Native.Nat.{ℕ, zero, suc, _+_, _-_, _*_, _≤_, _<_}
+use native.Mathlib.Nat.{suc-mul, zero-mul, mul-le-mul-right, add-sub-of-le}
 use native.Mathlib.Omega.{arith}
 use native.Mathlib.Decide.{decLt}
 use mathlib.Core.Path.{_≡_, refl, sym, ap, ap₂, _∙_, subst}
 use mathlib.Core.Logic.{_≢_}
 use mathlib.Core.List.{List, [], _∷_, _++_, append-assoc}
-use lib.ListN.{length, take, drop, length-append, length-take, length-drop, take-append-drop, drop-of-length-le}
-use lib.Seq.{take-at, drop-at, take-append-le, drop-append-le, drop-drop, take-take, take-all, take-nil, drop-append-add, take-add}
+use lib.ListN.{length, take, drop, length-append, length-take, length-drop, take-append-drop}
+use lib.Seq.{take-at, drop-at, take-append-le, drop-append-le, drop-drop, take-take, drop-append-add, take-add}
 use Rattle.lists.specs.Parts.{partAt, putAt}
 
 module _ {ℓ} {A : Type ℓ} where
@@ -83,6 +83,20 @@ module _ {ℓ} {A : Type ℓ} where
   pub part-part : (b j a k : ℕ) (l : List A) → b + j ≤ k → partAt b j (partAt a k l) ≡ partAt (a + b) j l
   unfolding partAt
   part-part b j a k l h = inside-take b j k (drop a l) h ∙ ap (take j) (drop-drop b a l)
+
+  -- a put inside a part, and the part put back, is a put in the whole
+  pub put-inside : (b k a m : ℕ) (x l : List A) → b + k ≤ m → a + m ≤ length l → putAt a m (putAt b k x (partAt a m l)) l ≡ putAt (a + b) k x l
+  unfolding partAt putAt
+  put-inside b k a m x l h f =
+      let d = drop a l in
+      let front : take b (take m d) ≡ take b d = take-take b m d (omega arith) in
+      let long : b + k ≤ length (take m d) = simp (length-take, length-drop) (omega arith) in
+      let back : drop (b + k) (take m d) ++ drop m d ≡ drop (b + k) d =
+      sym (drop-append-le (b + k) (take m d) (drop m d) long) ∙ ap (drop (b + k)) (take-append-drop m d) in
+      let rest : drop k (drop b (take m d)) ++ drop m d ≡ drop k (drop (a + b) l) =
+      ap (λ (z : List A). z ++ drop m d) (drop-drop k b (take m d)) ∙ (back ∙ (sym (drop-drop k b d) ∙ ap (drop k) (drop-drop b a l))) in
+      rw (front, take-add a b l)
+      (simp append-assoc (ap (λ (z : List A). take a l ++ (take b d ++ (x ++ z))) rest))
 
   -- the n-th part of size k is another part than the m-th
   pub part-other : (k n m : ℕ) (x l : List A) → n ≢ m → length x ≡ k → m * k + k ≤ length l → partAt (n * k) k (putAt (m * k) k x l) ≡ partAt (n * k) k l

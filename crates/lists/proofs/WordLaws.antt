@@ -1,9 +1,9 @@
 -- A number laid out as bytes has the right length, is made of bytes, and is read back as it was.
-use Prim.Native.Nat.{ℕ, zero, suc, _+_, _*_, _/_, _%_, _^_, _≤_, _<_}
-use native.Mathlib.Nat.{pow-suc, mod-lt, div-lt-iff-lt-mul, mod-add-div', le-of-suc-le-suc}
+use Prim.Native.Nat.{ℕ, zero, suc, _+_, _*_, _/_, _%_, _^_, _<_}
+use native.Mathlib.Nat.{pow-suc, div-lt-iff-lt-mul}
 use native.Mathlib.Omega.{arith}
-use mathlib.Core.Path.{_≡_, refl, sym, ap, _∙_, subst}
-use mathlib.Core.List.{List, [], _∷_, _++_, reverse, reverseAux, reverse-reverse}
+use mathlib.Core.Path.{_≡_, refl, ap, _∙_, subst}
+use mathlib.Core.List.{List, [], _∷_, reverse, reverseAux, reverse-reverse}
 use lib.ListN.{length, length-reverse}
 use Rattle.lists.specs.Bytes.{Bytes}
 use Rattle.lists.specs.Words.{little, littleBytes, big, bigBytes}

@@ -1,8 +1,11 @@
 -- What was xored with a number comes back when it is xored with it again.
 use Prim.Native.Nat.{ℕ, zero, suc, _+_, _*_, _/_, _%_, _<_}
 use native.Mathlib.Omega.{arith}
-use mathlib.Core.Path.{_≡_, refl, sym, ap, _∙_}
+use mathlib.Core.Path.{_≡_, refl, sym, ap, ap₂, _∙_}
+use mathlib.Core.List.{List, [], _∷_}
 use lib.Arith.{bin-ind}
+use Rattle.lists.specs.Parts.{partAt}
+use Rattle.lists.specs.Words.{big, xored, xoredBehind}
 use lib.Bits.{bitXor, differ, xor-step, xor-self}
 
 -- one digit
@@ -38,3 +41,14 @@ xor-undo =
     ∙ (ap (λ (z : ℕ). bitXor q (y / 2) * 2 + differ z (y % 2)) odd
     ∙ (ap (λ (z : ℕ). z * 2 + differ d (y % 2)) (ih (y / 2))
     ∙ (ap (λ (z : ℕ). x / 2 * 2 + z) undone ∙ omega arith)))))
+
+-- words xored with a key stream come back when they are xored with it again
+xored-undo : (k : ℕ) (stream : List ℕ) (i : ℕ) (l : List ℕ) → xored k stream i (xored k stream i l) ≡ l
+unfolding xored
+xored-undo k stream i [] = refl
+xored-undo k stream i (x ∷ l) = ap₂ _∷_ (xor-undo x (big (partAt i k stream))) (xored-undo k stream (i + k) l)
+
+pub xoredBehind-undo : (k : ℕ) (stream l : List ℕ) → xoredBehind k stream (xoredBehind k stream l) ≡ l
+unfolding xoredBehind
+xoredBehind-undo k stream [] = refl
+xoredBehind-undo k stream (x ∷ l) = ap (λ (r : List ℕ). x ∷ r) (xored-undo k stream 0 l)

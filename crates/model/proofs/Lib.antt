@@ -3,3 +3,4 @@ pub mod Perform
 pub mod Sums
 pub mod Ways
 pub mod Traps
+pub mod Manual

@@ -1,11 +1,9 @@
 -- What a tag makes of a line is a line again, what was stored is seen again, and what was signed passes.
 use Prim.Native.Nat.{ℕ, _*_, _<_}
 use mathlib.Core.Path.{_≡_, refl}
-use mathlib.Core.Bool.{Bool, true, false, _&&_, true≢false, false≢true}
+use mathlib.Core.Bool.{true, false≢true}
 use mathlib.Core.List.{List}
 use lib.ListN.{length}
-use lib.Dec.{eqb}
-use borrow.Author.Tests.{eqb-true}
 use Rattle.lists.proofs.ByteLaws.{bytes-part, same-refl}
 use Rattle.lists.proofs.NthLaws.{nth-length}
 use Rattle.model.specs.Tags.{Tag, noTag, secureInstruction, secureData, sameTag}

@@ -1,8 +1,8 @@
 -- A memory runs two programs in a row as it runs them one after the other.
 use mathlib.Core.Path.{_≡_, refl, sym, ap, _∙_}
-use mathlib.Core.List.{List, [], _∷_, _++_, append-assoc}
+use mathlib.Core.List.{List, _++_, append-assoc}
 use Rattle.model.specs.Log.{Note}
-use Rattle.model.specs.Requests.{Request, Reply, Prog, ret, ask, andThen, Memory, Ran, perform}
+use Rattle.model.specs.Requests.{Prog, ret, ask, andThen, Memory, Ran, perform}
 
 -- one run and then another: the second's result and state, and the notes of both
 unfoldable pub followed : {A B S : Type 0} → Ran A S → Ran B S → Ran B S

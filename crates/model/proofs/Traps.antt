@@ -1,6 +1,6 @@
 -- A MAC is not freshness: an old line with its old MAC, put back over the bus, passes. Guarding against it is the module's own work with SRH.
 use Prim.Native.Nat.{ℕ, _*_, _<_}
-use mathlib.Core.Path.{_≡_, refl}
+use mathlib.Core.Path.{_≡_}
 use mathlib.Core.Bool.{true, false}
 use mathlib.Core.List.{List}
 use mathlib.Core.Option.{some}

@@ -1,10 +1,8 @@
 -- The cached memory's rules, one law for each way that a case may go: what the sentences of document 01's 'Protected lines' say.
 use Prim.Native.Nat.{ℕ, _*_}
-use mathlib.Core.Path.{_≡_, refl, sym, ap, _∙_}
-use mathlib.Core.Bool.{Bool, true, false, _&&_}
-use mathlib.Core.List.{List, [], _∷_, _++_}
-use mathlib.Core.Option.{none, some}
-use lib.ListN.{length}
+use mathlib.Core.Path.{_≡_, refl}
+use mathlib.Core.Bool.{true, false, _&&_}
+use mathlib.Core.List.{List, [], _∷_}
 use lib.Dec.{eqb}
 use borrow.Author.Tests.{eqb-true}
 use Rattle.lists.specs.Bytes.{zeros}
@@ -16,7 +14,7 @@ use Rattle.model.specs.Lines.{lineAt, putLine, macAt, putMac, seen, stor
 use Rattle.model.specs.Log.{Note}
 use Rattle.model.specs.Placement.{Entry, Placement, holding}
 use Rattle.model.specs.Requests.{busWrite, busMac, rekey}
-use Rattle.model.specs.Cached.{Cached, Did, evictPlace, fillPlace, thenDo, serves, holds, hitPlace, readyPlace, writePlace, accessPlace, evictLine, evictAll, cachedHandle, losePlace}
+use Rattle.model.specs.Cached.{Cached, evictPlace, fillPlace, thenDo, serves, holds, hitPlace, readyPlace, writePlace, evictLine, evictAll, cachedHandle, losePlace}
 use Rattle.model.proofs.LineLaws.{sameTag-true}
 
 -- a write-back under no tag leaves the MAC area

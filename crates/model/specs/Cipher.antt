@@ -2,6 +2,7 @@
 use Prim.Native.Nat.{ℕ}
 use mathlib.Core.List.{List}
 
+-- the operations of the ciphers
 pub record Cipher : Type 0 where
   -- the 64 bytes of a data line, enciphered under the DRK for the line's address
   pub encipher : List ℕ → ℕ → List ℕ → List ℕ

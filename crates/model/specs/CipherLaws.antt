@@ -11,6 +11,7 @@ pub record Sized (k : ℕ) (l : List ℕ) : Type 0 where
   pub size : length l ≡ k
   pub bytes : Bytes l
 
+-- the laws of the ciphers
 pub record CipherLaws (c : Cipher) : Type 0 where
   pub encipher-length : (k : List ℕ) (a : ℕ) (l : List ℕ) → length l ≡ 64 → length (c .encipher k a l) ≡ 64
   pub decipher-length : (k : List ℕ) (a : ℕ) (l : List ℕ) → length l ≡ 64 → length (c .decipher k a l) ≡ 64

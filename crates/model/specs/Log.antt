@@ -5,12 +5,14 @@ use mathlib.Core.List.{List, [], _∷_}
 use Rattle.lists.specs.If.{if}
 use Rattle.model.specs.Tags.{Tag, isData, isChecked}
 
+-- a note of what was done
 pub data Note : Type 0 where
   -- line n was filled under the tag; the test says whether its check passed
   filled : Tag → ℕ → Bool → Note
   -- line n, held under the tag, was evicted; the test says whether it was dirty and so written back
   evicted : Tag → ℕ → Bool → Note
 
+-- the four counts: lines filled, dirty lines written, MACs checked, MACs made for lines
 pub record Counts : Type 0 where
   pub filled : ℕ
   pub written : ℕ

@@ -19,6 +19,7 @@ empty = record { used = false; line = 0; tag = noTag; dirty = false }
 unfoldable pub holding : ℕ → Tag → Bool → Entry
 holding n tag dirty = record { used = true; line = n; tag = tag; dirty = dirty }
 
+-- the operations of a placement
 pub record Placement : Type 0 where
   -- the place for line n: where it is held, or where it would be filled
   pub choose : List ℕ → ℕ → ℕ

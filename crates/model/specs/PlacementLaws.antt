@@ -6,12 +6,13 @@ use mathlib.Core.Bool.{Bool, true, false}
 use mathlib.Core.List.{List}
 use lib.ListN.{length}
 use Rattle.model.specs.Tags.{Tag, secureInstruction}
-use Rattle.model.specs.Placement.{Entry, Placement, empty, holding}
+use Rattle.model.specs.Placement.{Entry, Placement, holding}
 
 -- a line of tag Secure Instruction is never dirty
 pub record Tame (tag : Tag) (dirty : Bool) : Type 0 where
   pub tame : tag ≡ secureInstruction → dirty ≡ false
 
+-- the laws of a placement
 pub record PlacementLaws (P : Placement) : Type 1 where
   -- an orderly directory for a memory of N lines: what refusal 104 asks
   pub Orderly : ℕ → List ℕ → Type 0

@@ -6,6 +6,7 @@ use mathlib.Core.Option.{Option}
 use Rattle.model.specs.Tags.{Tag}
 use Rattle.model.specs.Log.{Note}
 
+-- a request to the memory
 pub data Request : Type 0 where
   -- the 64 bytes of line n as the tag sees them; where the test says so, they are then changed
   access : Tag → ℕ → Bool → (List ℕ → List ℕ) → Request

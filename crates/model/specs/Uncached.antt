@@ -1,11 +1,10 @@
 -- The manual's memory: the machine without a cache works on memory and MAC area at once.
 use Prim.Native.Nat.{ℕ}
-use mathlib.Core.Bool.{Bool, _&&_}
+use mathlib.Core.Bool.{_&&_}
 use mathlib.Core.List.{List, []}
 use mathlib.Core.Option.{none, some}
 use lib.ListN.{length}
 use Rattle.lists.specs.If.{if}
-use Rattle.model.specs.Tags.{Tag}
 use Rattle.model.specs.Cipher.{Cipher}
 use Rattle.model.specs.Lines.{lineAt, putLine, macAt, putMac, seen, stored, signed, passes}
 use Rattle.model.specs.Requests.{Request, access, evict, busRead, busWrite, busMac, writeBack, rekey, Handled, Memory}

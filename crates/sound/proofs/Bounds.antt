@@ -1,44 +1,47 @@
 -- No instruction but drk.set fills or writes more than two lines; and what any instruction and any run may count.
 use Prim.Native.Nat.{ℕ, zero, suc, _+_, _*_, _/_, _%_, _≤_}
-use native.Mathlib.Nat.{suc-mul}
+use native.Mathlib.Nat.{suc-mul, mul-le-mul-right}
 use native.Mathlib.Omega.{arith}
-use mathlib.Core.Path.{_≡_, refl, sym, ap, _∙_, subst}
+use mathlib.Core.Path.{_≡_, refl}
 use mathlib.Core.Logic.{_≢_}
 use mathlib.Core.Bool.{Bool, true, false, true≢false}
-use mathlib.Core.List.{List, [], _∷_, _++_}
+use mathlib.Core.List.{List, [], _++_}
 use lib.ListN.{length}
-use lib.Dec.{eqb}
-use borrow.Author.Tests.{ne-eqb}
+use lib.Dec.{eqb, ltb}
+use borrow.Author.Tests.{ne-eqb, eqb-true, ltb-false}
 use Rattle.lists.specs.If.{if}
 use Rattle.lists.specs.Parts.{putAt}
 use Rattle.lists.specs.Words.{littleBytes}
 use Rattle.lists.proofs.Cases.{by-test}
-use Rattle.model.specs.Tags.{Tag, noTag, secureData}
+use Rattle.model.specs.Tags.{noTag, secureData}
 use Rattle.model.specs.Cipher.{Cipher}
 use Rattle.model.specs.CipherLaws.{CipherLaws}
 use Rattle.model.specs.Log.{Note}
 use Rattle.model.specs.Placement.{Placement}
 use Rattle.model.specs.Requests.{perform}
-use Rattle.model.specs.Cached.{Cached, cachedHandle, cached, accessPlace, evictAll}
+use Rattle.model.specs.Cached.{Cached, cachedHandle, cached, accessPlace, evictAll, evictLine}
 use Rattle.keeps.specs.Good.{Good}
 use Rattle.keeps.specs.Within.{Within}
-use Rattle.keeps.proofs.Counts.{within-none, within-more, within-append, access-within, all-within}
+use Rattle.keeps.proofs.Counts.{within-none, within-more, within-append, access-within, all-within, drop-within}
 use Rattle.keeps.proofs.Requests.{perform-good}
 use Rattle.instructions.specs.Board.{Board}
 use Rattle.instructions.specs.Record.{Processor}
 use Rattle.instructions.specs.Fields.{opcode}
 use Rattle.instructions.specs.Operations.{Ra, address, keyFrom}
 use Rattle.instructions.specs.Wishes.{Wish, idle, word, newKey, Got, grant}
-use Rattle.instructions.specs.Step.{fetchWish, knownFault, dataWish, finished, instruction}
+use Rattle.instructions.specs.Step.{fetchWish, knownFault, dataWish}
 use Rattle.instructions.specs.Faults.{fetchFault}
-use Rattle.instructions.specs.Calls.{Machine, Result, cachedSetup, step, runFrom}
+use Rattle.instructions.specs.Calls.{Machine, cachedSetup, step, runFrom, Call, run, interrupt, busRead, busWrite, busMac, writeBackAll, reboot, powerCut, callFlaws, accepted, called, changed, asked, refused, refusal}
 use Rattle.instructions.proofs.Phases.{fetchPhase, dataPhase, phases}
 use Rattle.instructions.proofs.Sane.{flaws-sane}
-use Rattle.demand3.specs.BoardLaws.{BoardLaws}
-use Rattle.demand3.specs.Statement.{fetched, Acceptable, TwoLines, StepBound, RunBound}
-use Rattle.demand3.proofs.Sound.{FairWish, fetch-fair, grant-sound}
-use Rattle.demand3.proofs.Lent.{lent-good}
-use Rattle.demand3.proofs.Kept.{Kept, step-kept}
+use Rattle.instructions.specs.Rules.{firstOf}
+use Rattle.instructions.specs.Refusals.{runFlaws}
+use Rattle.sound.proofs.Refused.{none-refused}
+use Rattle.sound.specs.BoardLaws.{BoardLaws}
+use Rattle.sound.specs.Acceptable.{Acceptable, fetched}
+use Rattle.sound.proofs.Programs.{fetch-fair, grant-sound, none-first}
+use Rattle.sound.proofs.Lent.{lent-good}
+use Rattle.sound.proofs.Kept.{Kept, step-kept}
 
 -- does the wish take another key?
 takesKey : Wish → Bool
@@ -94,7 +97,7 @@ data-no-key B M r got d =
     (word secureData (address B r w) (B .wordBytes) false 0) (word secureData (address B r w) (B .wordBytes) true (Ra r w)) refl refl refl refl))
     (λ h. rw h)
 
-pub two-lines : TwoLines
+pub two-lines : (B : Board) (c : Cipher) (m : Machine Cached) → opcode (fetched B c m) ≢ 32 → Within 2 2 (step B c (cachedSetup B c) m .log)
 unfolding fetched step cachedSetup cached fetchPhase dataPhase
 two-lines B c m d =
     let P = B .placement in
@@ -143,10 +146,40 @@ module _ (B : Board) (BL : BoardLaws B) (c : Cipher) (CL : CipherLaws c) (N C : 
 in-order : (B : Board) (BL : BoardLaws B) (c : Cipher) (CL : CipherLaws c) (m : Machine Cached) (A : Acceptable B m) → Kept B BL c CL (length (m .memory .mem) / 64) (length (m .memory .dir)) (lent-good B BL (m .memory) (A .memory) .slots) m
 in-order B BL c CL m A = record { good = lent-good B BL (m .memory) (A .memory) .good; sane = flaws-sane (m .processor) (A .processor) }
 
-pub step-bound : StepBound
+pub step-bound : (B : Board) → BoardLaws B → (c : Cipher) → CipherLaws c → (m : Machine Cached) → Acceptable B m → Within 2 (length (m .memory .dir) + 2) (step B c (cachedSetup B c) m .log)
 step-bound B BL c CL m A =
     step-within B BL c CL (length (m .memory .mem) / 64) (length (m .memory .dir)) (lent-good B BL (m .memory) (A .memory) .slots) m (in-order B BL c CL m A)
 
-pub run-bound : RunBound
+pub run-bound : (B : Board) → BoardLaws B → (c : Cipher) → CipherLaws c → (n : ℕ) (m : Machine Cached) → Acceptable B m → Within (n * 2) (n * (length (m .memory .dir) + 2)) (runFrom B c (cachedSetup B c) n 0 m .log)
 run-bound B BL c CL n m A =
     run-within B BL c CL (length (m .memory .mem) / 64) (length (m .memory .dir)) (lent-good B BL (m .memory) (A .memory) .slots) n 0 m (in-order B BL c CL m A)
+
+-- any call, a run being of at most 10,000 instructions
+module _ (B : Board) (BL : BoardLaws B) (c : Cipher) (CL : CipherLaws c) (m : Machine Cached) (A : Acceptable B m) where
+  abbrev C : ℕ
+  C = length (m .memory .dir)
+
+  few : (w : ℕ) (log : List Note) → w ≤ C + 1 → Within 0 w log → Within 20000 (10000 * (C + 2)) log
+  few w log h W = within-more 0 w 20000 (10000 * (C + 2)) log (omega arith) (omega arith) W
+
+  accepted-bound : (call : Call) → firstOf (callFlaws (length (m .memory .mem)) call) ≡ 0 → Within 20000 (10000 * (C + 2)) (accepted B c (cachedSetup B c) call m .log)
+  unfolding accepted callFlaws changed asked cachedSetup cached cachedHandle runFlaws
+  accepted-bound (run n) z =
+      let h : n ≤ 10000 = ltb-false 10000 n (none-first (ltb 10000 n) 108 0 (λ q. omega arith) z .0) in
+      within-more (n * 2) (n * (C + 2)) 20000 (10000 * (C + 2)) (runFrom B c (cachedSetup B c) n 0 m .log) (omega arith) (mul-le-mul-right (C + 2) h) (run-bound B BL c CL n m A)
+  accepted-bound interrupt z = few 0 [] (omega arith) within-none
+  accepted-bound (busRead n x) z = few 1 (evictLine c (B .placement) n (m .memory) .log) (omega arith) (drop-within c (B .placement) (m .memory) n)
+  accepted-bound (busWrite n x) z = few 1 (evictLine c (B .placement) n (m .memory) .log) (omega arith) (drop-within c (B .placement) (m .memory) n)
+  accepted-bound (busMac n x) z = few 1 (evictLine c (B .placement) n (m .memory) .log) (omega arith) (drop-within c (B .placement) (m .memory) n)
+  accepted-bound (Call.evictLine n) z = few 1 (evictLine c (B .placement) n (m .memory) .log) (omega arith) (drop-within c (B .placement) (m .memory) n)
+  accepted-bound writeBackAll z = few C (evictAll c (B .placement) (m .memory) .log) (omega arith) (all-within c (B .placement) (m .memory))
+  accepted-bound reboot z = few C (evictAll c (B .placement) (m .memory) .log) (omega arith) (all-within c (B .placement) (m .memory))
+  accepted-bound powerCut z = few 0 [] (omega arith) within-none
+
+  pub call-bound : (call : Call) → Within 20000 (10000 * (C + 2)) (called B c (cachedSetup B c) call m .log)
+  unfolding called refused cachedSetup cached
+  call-bound call =
+      let n = refusal (cachedSetup B c) call m in
+      by-test (eqb n 0)
+      (λ h. rw h (accepted-bound call (none-refused (cachedSetup B c) call m (eqb-true n 0 h))))
+      (λ h. rw h (few 0 [] (omega arith) within-none))

@@ -1,18 +1,16 @@
 -- Every instruction's program is sound: its requests name lines of memory, keep lines lines and change no signed code. No hypothesis on the program in memory.
 use Prim.Native.Nat.{ℕ, zero, suc, _+_, _*_, _/_, _%_, _<_, _≤_}
-use native.Mathlib.Nat.{div-lt-iff-lt-mul, mod-add-div', mod-lt, mul-comm, mul-assoc, add-mul-mod-self-right, mul-le-mul-right, suc-mul, mul-zero, lt-of-mul-lt-mul-right}
+use native.Mathlib.Nat.{mod-add-div', mul-assoc, add-mul-mod-self-right, mul-le-mul-right, suc-mul, mul-zero, lt-of-mul-lt-mul-right}
 use native.Mathlib.Omega.{arith}
 use mathlib.Core.Path.{_≡_, refl, sym, ap, _∙_, subst}
-use mathlib.Core.Logic.{_≢_}
-use mathlib.Core.Bool.{Bool, true, false, not, _&&_, _||_, false≢true, true≢false}
-use mathlib.Core.List.{List, [], _∷_, _++_}
-use lib.ListN.{length, length-append}
+use mathlib.Core.Bool.{Bool, true, false, not, _&&_, _||_, false≢true}
+use mathlib.Core.List.{List, [], _∷_}
+use lib.ListN.{length-append}
 use lib.Dec.{eqb, leb, ltb}
-use borrow.Author.Tests.{eqb-true, eqb-false, leb-false, ltb-false, not-false, not-true}
+use borrow.Author.Tests.{eqb-true, eqb-false, leb-false, ltb-false, not-false}
 use Rattle.lists.specs.If.{if}
-use Rattle.lists.specs.Parts.{putAt}
 use Rattle.lists.specs.Words.{littleBytes, bigBytes}
-use Rattle.lists.proofs.Cases.{by-test, both-hold}
+use Rattle.lists.proofs.Cases.{by-test}
 use Rattle.lists.proofs.PartLaws.{length-put}
 use Rattle.lists.proofs.ByteLaws.{bytes-put, bytes-append}
 use Rattle.lists.proofs.WordLaws.{length-littleBytes, bytes-littleBytes, length-bigBytes, bytes-bigBytes}
@@ -20,8 +18,8 @@ use Rattle.model.specs.Tags.{Tag, noTag, secureInstruction, secureData, isData,
 use Rattle.model.specs.Cipher.{Cipher}
 use Rattle.model.specs.CipherLaws.{Sized}
 use Rattle.model.specs.Requests.{Prog, ret, ask, andThen}
-use Rattle.keeps.specs.Sound.{Fair, fair-access, fair-rekey, Sound, sound-ret, sound-ask}
-use Rattle.instructions.specs.Rules.{firstOf, pick, oneOf}
+use Rattle.keeps.specs.Sound.{fair-access, fair-rekey, Sound, sound-ret, sound-ask}
+use Rattle.instructions.specs.Rules.{firstOf}
 use Rattle.instructions.specs.Board.{Board}
 use Rattle.instructions.specs.Record.{Processor, active}
 use Rattle.instructions.specs.Fields.{opcode, exists, needsActive}

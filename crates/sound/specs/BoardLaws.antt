@@ -1,4 +1,4 @@
--- What a board must satisfy for demand 3: its placement is lawful, its entry check is for orderly directories, and whole words make a line.
+-- What a board must satisfy: its placement is lawful, its entry check is for orderly directories, and whole words make a line.
 use Prim.Native.Nat.{ℕ, _*_, _≤_}
 use mathlib.Core.Path.{_≡_}
 use mathlib.Core.Bool.{true}
@@ -7,6 +7,7 @@ use lib.ListN.{length}
 use Rattle.model.specs.PlacementLaws.{PlacementLaws}
 use Rattle.instructions.specs.Board.{Board}
 
+-- the laws of a board
 pub record BoardLaws (B : Board) : Type 1 where
   pub placement : PlacementLaws (B .placement)
   -- what refusals 103 and 104 let pass is orderly, and an orderly directory is let pass

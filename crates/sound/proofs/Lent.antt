@@ -1,9 +1,9 @@
 -- What refusals 101 to 104 let pass is good, and what is good they let pass.
-use Prim.Native.Nat.{ℕ, _+_, _*_, _/_, _%_, _≤_}
+use Prim.Native.Nat.{ℕ, _*_, _/_, _%_, _≤_}
 use native.Mathlib.Omega.{arith}
-use mathlib.Core.Path.{_≡_, refl, sym, ap, _∙_, subst}
-use mathlib.Core.Bool.{Bool, true, false, not, _&&_}
-use mathlib.Core.List.{List, [], _∷_}
+use mathlib.Core.Path.{_≡_, refl}
+use mathlib.Core.Bool.{true, not, _&&_}
+use mathlib.Core.List.{[], _∷_}
 use lib.ListN.{length}
 use lib.Dec.{eqb, leb}
 use borrow.Author.Tests.{eqb-true, eq-eqb, leb-true, not-false}
@@ -13,8 +13,8 @@ use Rattle.keeps.specs.Good.{Good}
 use Rattle.instructions.specs.Rules.{firstOf}
 use Rattle.instructions.specs.Board.{Board}
 use Rattle.instructions.specs.Refusals.{sizeFine, memoryFlaws, cacheFlaws, cachedFlaws}
-use Rattle.demand3.specs.BoardLaws.{BoardLaws}
-use Rattle.demand3.proofs.Sound.{none-first}
+use Rattle.sound.specs.BoardLaws.{BoardLaws}
+use Rattle.sound.proofs.Programs.{none-first}
 
 module _ (B : Board) (BL : BoardLaws B) where
   -- what was lent: its size is one of document 01's, its slots are right in number, and it is good

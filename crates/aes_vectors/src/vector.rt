@@ -1,0 +1,22 @@
+// Whether `aes` gives the answer of a vector.
+use crate::hex::Block;
+
+// Whether a vector was read whole.
+fn is_whole(key: Block, plain: Block, cipher: Block) -> bool {
+    key.is_whole && plain.is_whole && cipher.is_whole
+}
+
+// Whether the plain block is enciphered to the cipher block under the key.
+pub(crate) fn enciphers(key: Block, plain: Block, cipher: Block) -> bool {
+    let w = aes::expand(&key.bytes);
+    let answer = aes::encipher(&w, &plain.bytes);
+    let expected = cipher.bytes;
+    is_whole(key, plain, cipher) && check::same(&answer, &expected)
+}
+
+// Whether the cipher block is deciphered to the plain block under the key.
+pub(crate) fn deciphers(key: Block, plain: Block, cipher: Block) -> bool {
+    let answer = aes::decipher(&key.bytes, &cipher.bytes);
+    let expected = plain.bytes;
+    is_whole(key, plain, cipher) && check::same(&answer, &expected)
+}

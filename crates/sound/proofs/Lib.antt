@@ -1,0 +1,6 @@
+pub mod Programs
+pub mod Lent
+pub mod Refused
+pub mod Kept
+pub mod Bounds
+pub mod Document

@@ -1,0 +1,2 @@
+-- What the tallies of comparisons mean.
+pub mod Tally

@@ -1,0 +1,71 @@
+/* Compares hq_aes_encipher and hq_aes_decipher with OpenSSL's AES-128 on 100,000 pseudo-random keys and blocks; status 1 on a difference. */
+#include <openssl/crypto.h>
+#include <openssl/evp.h>
+#include <stdio.h>
+#include <string.h>
+
+#include "hq_aes.h"
+
+enum { PAIRS = 100000 };
+
+/* The next number of the sequence xorshift64, from a fixed seed. */
+static uint64_t next_number(void)
+{
+    static uint64_t x = 88172645463325252u;
+    x ^= x << 13;
+    x ^= x >> 7;
+    x ^= x << 17;
+    return x;
+}
+
+/* Sixteen pseudo-random bytes. */
+static void fill(uint8_t out[16])
+{
+    for (int i = 0; i < 16; i += 8) {
+        uint64_t x = next_number();
+        memcpy(out + i, &x, 8);
+    }
+}
+
+/* One block under a key by OpenSSL, enciphered or deciphered; 0 where OpenSSL fails. */
+static int by_openssl(EVP_CIPHER_CTX *ctx, int enciphers, const uint8_t key[16], const uint8_t block[16], uint8_t out[16])
+{
+    int n = 0;
+    return EVP_CipherInit_ex(ctx, EVP_aes_128_ecb(), NULL, key, NULL, enciphers) == 1
+        && EVP_CIPHER_CTX_set_padding(ctx, 0) == 1
+        && EVP_CipherUpdate(ctx, out, &n, block, 16) == 1
+        && n == 16;
+}
+
+/* The number of differences on one key and one block, 0 to 3; each direction, and there and back. */
+static int differences(EVP_CIPHER_CTX *ctx, const uint8_t key[16], const uint8_t block[16])
+{
+    uint32_t w[44];
+    uint8_t enciphered[16], deciphered[16], back[16], theirs[16];
+    hq_aes_expand(key, w);
+    hq_aes_encipher(w, block, enciphered);
+    hq_aes_decipher(key, block, deciphered);
+    hq_aes_decipher(key, enciphered, back);
+    int wrong = memcmp(back, block, 16) != 0;
+    wrong += !by_openssl(ctx, 1, key, block, theirs) || memcmp(enciphered, theirs, 16) != 0;
+    wrong += !by_openssl(ctx, 0, key, block, theirs) || memcmp(deciphered, theirs, 16) != 0;
+    return wrong;
+}
+
+int main(void)
+{
+    EVP_CIPHER_CTX *ctx = EVP_CIPHER_CTX_new();
+    long wrong = 0;
+    if (ctx == NULL)
+        return 1;
+    for (int i = 0; i < PAIRS; i++) {
+        uint8_t key[16], block[16];
+        fill(key);
+        fill(block);
+        wrong += differences(ctx, key, block);
+    }
+    EVP_CIPHER_CTX_free(ctx);
+    printf("AES-128 beside %s: %d keys and blocks, both directions, %ld differences\n",
+           OpenSSL_version(OPENSSL_VERSION), PAIRS, wrong);
+    return wrong != 0;
+}
