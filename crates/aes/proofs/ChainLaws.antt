@@ -26,13 +26,16 @@ tabulate-same (suc n) f g h =
     ap₂ (λ (x : ℕ) (l : List ℕ). x ∷ l) (h 0 (omega arith))
     (tabulate-same n (λ i. f (suc i)) (λ i. g (suc i)) (λ i lt. h (suc i) (omega arith)))
 
--- sixteen bytes of a buffer are a part of it
-pub bytes-part : (l : List ℕ) (k : ℕ) → k + 16 ≤ length l → state (λ i. at l (k + i)) ≡ partAt k 16 l
+-- the bytes of a buffer from place k on are a part of it
+pub part-tabulated : (n : ℕ) (l : List ℕ) (k : ℕ) → k + n ≤ length l → tabulate n (λ i. at l (k + i)) ≡ partAt k n l
 unfolding partAt
-bytes-part l k h =
-    tabulate-same 16 (λ i. at l (k + i)) (at (partAt k 16 l))
-    (λ i lt. sym (getD-take 16 (drop k l) i 0 lt ∙ getD-drop k l i 0))
-    ∙ sym (tabulated 16 (partAt k 16 l) (length-part k 16 l h))
+part-tabulated n l k h =
+    tabulate-same n (λ i. at l (k + i)) (at (partAt k n l)) (λ i lt. sym (getD-take n (drop k l) i 0 lt ∙ getD-drop k l i 0))
+    ∙ sym (tabulated n (partAt k n l) (length-part k n l h))
+
+-- sixteen of them
+pub bytes-part : (l : List ℕ) (k : ℕ) → k + 16 ≤ length l → state (λ i. at l (k + i)) ≡ partAt k 16 l
+bytes-part = part-tabulated 16
 
 -- sixteen stores in a row replace a part
 pub sets-put : (l : List ℕ) (k : ℕ) (vs : List ℕ) → k + length vs ≤ length l → sets l k vs ≡ putAt k (length vs) vs l

@@ -12,7 +12,7 @@ use Rattle.aes.specs.State.{at, state, plus, Block}
 use Rattle.aes.specs.Cipher.{cipher, invCipher}
 use Rattle.aes.specs.Chain.{chained, unchained, absorbed, cbcEncrypt, cbcDecrypt, lastOfChain}
 use Rattle.aes.proofs.StateLaws.{plus-block, plus-again, block-state}
-use Rattle.aes.proofs.RoundTrip.{cipher-block, invCipher-block, invCipher-cipher}
+use Rattle.aes.proofs.RoundTrip.{cipher-length, cipher-block, invCipher-block, invCipher-cipher}
 
 plus-comm : (a b : List ℕ) → plus a b ≡ plus b a
 unfolding plus
@@ -50,14 +50,14 @@ unchained-chained w (suc n) before l h hb hl =
     (unchained-chained w n c (drop 16 l) (omega (arith, length-drop 16 l)) (hc .bytes) (bytes-drop 16 l hl))
     ∙ take-append-drop 16 l)
 
-chained-length : (w : List ℕ) (n : ℕ) (before l : List ℕ) → n * 16 ≤ length l → Bytes before → Bytes l → length (chained w n before l) ≡ length l
+chained-length : (w : List ℕ) (n : ℕ) (before l : List ℕ) → n * 16 ≤ length l → length (chained w n before l) ≡ length l
 unfolding chained
-chained-length w zero before l h hb hl = refl
-chained-length w (suc n) before l h hb hl =
+chained-length w zero before l h = refl
+chained-length w (suc n) before l h =
     let c = next w before l in
-    let hc = next-block w before l hb hl in
     length-append c (chained w n c (drop 16 l))
-    ∙ ap₂ _+_ (hc .size) (chained-length w n c (drop 16 l) (omega (arith, length-drop 16 l)) (hc .bytes) (bytes-drop 16 l hl) ∙ length-drop 16 l)
+    ∙ ap₂ _+_ (cipher-length w (plus before (take 16 l)))
+    (chained-length w n c (drop 16 l) (omega (arith, length-drop 16 l)) ∙ length-drop 16 l)
     ∙ omega arith
 
 chained-bytes : (w : List ℕ) (n : ℕ) (before l : List ℕ) → Bytes before → Bytes l → Bytes (chained w n before l)
@@ -91,9 +91,9 @@ absorbed-block w (suc n) before l hb hl =
     absorbed-block w n (next w before l) (drop 16 l) (next-block w before l (hb .bytes) hl) (bytes-drop 16 l hl)
 
 module _ (w iv l : List ℕ) where
-  pub cbcEncrypt-length : Bytes iv → Bytes l → length (cbcEncrypt w iv l) ≡ length l
+  pub cbcEncrypt-length : length (cbcEncrypt w iv l) ≡ length l
   unfolding cbcEncrypt
-  cbcEncrypt-length hb hl = chained-length w (length l / 16) iv l (omega arith) hb hl
+  cbcEncrypt-length = chained-length w (length l / 16) iv l (omega arith)
 
   pub cbcEncrypt-bytes : Bytes iv → Bytes l → Bytes (cbcEncrypt w iv l)
   unfolding cbcEncrypt
@@ -110,7 +110,7 @@ module _ (w iv l : List ℕ) where
   pub cbcDecrypt-cbcEncrypt : Bytes iv → Bytes l → cbcDecrypt w iv (cbcEncrypt w iv l) ≡ l
   unfolding cbcDecrypt cbcEncrypt
   cbcDecrypt-cbcEncrypt hb hl =
-      ap (λ (n : ℕ). unchained (invCipher w) (n / 16) iv (cbcEncrypt w iv l)) (cbcEncrypt-length hb hl)
+      ap (λ (n : ℕ). unchained (invCipher w) (n / 16) iv (cbcEncrypt w iv l)) cbcEncrypt-length
       ∙ unchained-chained w (length l / 16) iv l (omega arith) hb hl
 
   pub lastOfChain-block : Block iv → Bytes l → Block (lastOfChain w iv l)

@@ -3,6 +3,7 @@ use mathlib.Core.Path.{_≡_, refl, ap, ap₂, _∙_}
 use mathlib.Core.List.{List}
 use Prim.Native.Nat.{ℕ, zero, suc, _+_, _-_}
 use native.Mathlib.Omega.{arith}
+use lib.ListN.{length}
 use Rattle.lists.specs.Bytes.{Bytes}
 use Rattle.aes.specs.State.{at, state, Block, subBytes, shiftRows, mixWith, mixColumns, addRoundKey, invSubBytes, invShiftRows, invMixColumns}
 use Rattle.aes.specs.Cipher.{round, rounds, cipher, invRound, invRounds, invCipher}
@@ -23,6 +24,11 @@ rounds-bytes : (w : List ℕ) (n : ℕ) (s : List ℕ) → Bytes s → Bytes (ro
 unfolding rounds
 rounds-bytes w zero s h = h
 rounds-bytes w (suc n) s h = round-block w (suc n) (rounds w n s) (rounds-bytes w n s h) .bytes
+
+-- the cipher of anything has sixteen elements
+pub cipher-length : (w b : List ℕ) → length (cipher w b) ≡ 16
+unfolding cipher addRoundKey
+cipher-length w b = refl
 
 -- the cipher of a block is a block
 pub cipher-block : (w b : List ℕ) → Bytes b → Block (cipher w b)

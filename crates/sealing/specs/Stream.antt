@@ -1,16 +1,15 @@
--- The hash and the key stream of Suspend (document 01, 'Faults of the machine').
-use mathlib.Core.List.{List, [], _∷_, _++_}
+-- The key stream of Suspend (document 01, 'Faults of the machine').
+use mathlib.Core.List.{List, [], _++_}
 use Prim.Native.Nat.{ℕ, zero, suc, _+_}
-use lib.ListN.{take}
-use Rattle.field.specs.Field.{_⊕_}
-use Rattle.aes.specs.State.{at}
+use Rattle.aes.specs.State.{plus}
 use Rattle.aes.specs.Schedule.{keyExpansion}
 use Rattle.aes.specs.Cipher.{cipher}
+use Rattle.cmac.specs.Subkeys.{lastByte}
 use Rattle.sealing.specs.Lines.{lineKey}
 
 -- The hash with j xored into its last byte.
 unfoldable pub counted : List ℕ → ℕ → List ℕ
-counted hash j = take 15 hash ++ ((at hash 15 ⊕ j) ∷ [])
+counted hash j = plus hash (lastByte j)
 
 -- Blocks j, j + 1, .. of the key stream, n of them: AES under the line key of the hash with the block's number xored into its last byte.
 unfoldable pub streamFrom : List ℕ → List ℕ → ℕ → ℕ → List ℕ

@@ -1,4 +1,5 @@
 // Protected lines: their MACs, sealed data lines, and the hash and key stream of Suspend; a DRK is lent as two words, the high one first.
+pub mod registers;
 mod text;
 
 ghost use mathlib.Core.Path.{_≡_};

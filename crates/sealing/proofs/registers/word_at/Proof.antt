@@ -1,0 +1,202 @@
+use Rattle.sealing.proofs.RegisterLaws.{word-is}
+use borrow.Author.Needs.{needs}
+use Rattle.sealing.proofs.registers.word_at.Statement.{statement}
+use Rattle.sealing.proofs.registers.word_at.Tie as tie
+use Rattle.sealing.proofs.registers.word_at.Reads as reads
+use Rattle.sealing.proofs.registers.word_at.Lts as lts
+use Rattle.sealing.proofs.registers.wide.Reads as wide-reads
+
+-- src/registers.rt:72:10
+shared-slice-read-wide : tie.Need-shared-slice-read-wide
+shared-slice-read-wide c = search needs
+
+-- src/registers.rt:72:5
+wide-requires : tie.Need-wide-requires
+wide-requires c κs = search needs
+
+-- src/registers.rt:72:5
+mul-result : tie.Need-mul-result
+mul-result c = search needs
+
+-- src/registers.rt:73:18
+add-wide : tie.Need-add-wide
+add-wide c = search needs
+
+-- src/registers.rt:73:16
+shared-slice-read-wide-2 : tie.Need-shared-slice-read-wide-2
+shared-slice-read-wide-2 c = search needs
+
+-- src/registers.rt:73:11
+wide-requires-2 : tie.Need-wide-requires-2
+wide-requires-2 c κs = search needs
+
+-- src/registers.rt:73:11
+mul-result-2 : tie.Need-mul-result-2
+mul-result-2 c = search needs
+
+-- src/registers.rt:72:5
+add-result : tie.Need-add-result
+add-result c = search needs
+
+-- src/registers.rt:74:18
+add-wide-2 : tie.Need-add-wide-2
+add-wide-2 c = search needs
+
+-- src/registers.rt:74:16
+shared-slice-read-wide-3 : tie.Need-shared-slice-read-wide-3
+shared-slice-read-wide-3 c = search needs
+
+-- src/registers.rt:74:11
+wide-requires-3 : tie.Need-wide-requires-3
+wide-requires-3 c κs = search needs
+
+-- src/registers.rt:74:11
+mul-result-3 : tie.Need-mul-result-3
+mul-result-3 c = search needs
+
+-- src/registers.rt:72:5
+add-result-2 : tie.Need-add-result-2
+add-result-2 c = search needs
+
+-- src/registers.rt:75:18
+add-wide-3 : tie.Need-add-wide-3
+add-wide-3 c = search needs
+
+-- src/registers.rt:75:16
+shared-slice-read-wide-4 : tie.Need-shared-slice-read-wide-4
+shared-slice-read-wide-4 c = search needs
+
+-- src/registers.rt:75:11
+wide-requires-4 : tie.Need-wide-requires-4
+wide-requires-4 c κs = search needs
+
+-- src/registers.rt:75:11
+mul-result-4 : tie.Need-mul-result-4
+mul-result-4 c = search needs
+
+-- src/registers.rt:72:5
+add-result-3 : tie.Need-add-result-3
+add-result-3 c = search needs
+
+-- src/registers.rt:76:18
+add-wide-4 : tie.Need-add-wide-4
+add-wide-4 c = search needs
+
+-- src/registers.rt:76:16
+shared-slice-read-wide-5 : tie.Need-shared-slice-read-wide-5
+shared-slice-read-wide-5 c = search needs
+
+-- src/registers.rt:76:11
+wide-requires-5 : tie.Need-wide-requires-5
+wide-requires-5 c κs = search needs
+
+-- src/registers.rt:76:11
+mul-result-5 : tie.Need-mul-result-5
+mul-result-5 c = search needs
+
+-- src/registers.rt:72:5
+add-result-4 : tie.Need-add-result-4
+add-result-4 c = search needs
+
+-- src/registers.rt:77:18
+add-wide-5 : tie.Need-add-wide-5
+add-wide-5 c = search needs
+
+-- src/registers.rt:77:16
+shared-slice-read-wide-6 : tie.Need-shared-slice-read-wide-6
+shared-slice-read-wide-6 c = search needs
+
+-- src/registers.rt:77:11
+wide-requires-6 : tie.Need-wide-requires-6
+wide-requires-6 c κs = search needs
+
+-- src/registers.rt:77:11
+mul-result-6 : tie.Need-mul-result-6
+mul-result-6 c = search needs
+
+-- src/registers.rt:72:5
+add-result-5 : tie.Need-add-result-5
+add-result-5 c = search needs
+
+-- src/registers.rt:78:18
+add-wide-6 : tie.Need-add-wide-6
+add-wide-6 c = search needs
+
+-- src/registers.rt:78:16
+shared-slice-read-wide-7 : tie.Need-shared-slice-read-wide-7
+shared-slice-read-wide-7 c = search needs
+
+-- src/registers.rt:78:11
+wide-requires-7 : tie.Need-wide-requires-7
+wide-requires-7 c κs = search needs
+
+-- src/registers.rt:78:11
+mul-result-7 : tie.Need-mul-result-7
+mul-result-7 c = search needs
+
+-- src/registers.rt:72:5
+add-result-6 : tie.Need-add-result-6
+add-result-6 c = search needs
+
+-- src/registers.rt:79:18
+add-wide-7 : tie.Need-add-wide-7
+add-wide-7 c = search needs
+
+-- src/registers.rt:79:16
+shared-slice-read-wide-8 : tie.Need-shared-slice-read-wide-8
+shared-slice-read-wide-8 c = search needs
+
+-- src/registers.rt:79:11
+wide-requires-8 : tie.Need-wide-requires-8
+wide-requires-8 c κs = search needs
+
+-- src/registers.rt:72:5
+add-result-7 : tie.Need-add-result-7
+add-result-7 c = search needs
+
+-- src/registers.rt:68:1
+returns : tie.Need-returns
+returns c = simp (c .before .before .before .before .before .before .before .before .before .before .before .before .before .before .wide .ensures .0, c .before .before .before .before .before .before .before .before .before .before .before .before .wide2 .ensures .0, c .before .before .before .before .before .before .before .before .before .before .wide3 .ensures .0, c .before .before .before .before .before .before .before .before .wide4 .ensures .0, c .before .before .before .before .before .before .wide5 .ensures .0, c .before .before .before .before .wide6 .ensures .0, c .before .before .wide7 .ensures .0, c .wide8 .ensures .0) (word-is (c .before .before .before .before .before .before .before .before .before .before .before .before .before .before .before .before .before .args .s .now) (c .before .before .before .before .before .before .before .before .before .before .before .before .before .before .before .before .before .args .k) (c .before .before .before .before .before .before .before .before .before .before .before .before .before .before .before .before .before .pre))
+
+pub word-at-spec : {M : Type 1} → statement M
+word-at-spec =
+    tie.close
+    (tie.spec
+    shared-slice-read-wide
+    wide-requires
+    mul-result
+    add-wide
+    shared-slice-read-wide-2
+    wide-requires-2
+    mul-result-2
+    add-result
+    add-wide-2
+    shared-slice-read-wide-3
+    wide-requires-3
+    mul-result-3
+    add-result-2
+    add-wide-3
+    shared-slice-read-wide-4
+    wide-requires-4
+    mul-result-4
+    add-result-3
+    add-wide-4
+    shared-slice-read-wide-5
+    wide-requires-5
+    mul-result-5
+    add-result-4
+    add-wide-5
+    shared-slice-read-wide-6
+    wide-requires-6
+    mul-result-6
+    add-result-5
+    add-wide-6
+    shared-slice-read-wide-7
+    wide-requires-7
+    mul-result-7
+    add-result-6
+    add-wide-7
+    shared-slice-read-wide-8
+    wide-requires-8
+    add-result-7
+    returns)

@@ -1,0 +1,100 @@
+// The hash of the registers and the key stream that hides them (document 01, 'Suspend').
+use crate::text;
+ghost use mathlib.Core.Path.{_≡_};
+ghost use mathlib.Core.List.{_∷_};
+ghost use Prim.Native.Nat.{_+_, _≤_, _<_};
+ghost use lib.ListN.{length, drop};
+ghost use Rattle.lists.specs.Parts.{partAt};
+ghost use Rattle.lists.specs.Words.{big, wordsBytes, xoredBehind};
+ghost use Rattle.sealing.specs.Lines.{drkOf, macOf};
+ghost use Rattle.sealing.specs.Stream.{counted, stream};
+
+// The hash of R1 to R31: the MAC of byte 4 and the registers, each eight bytes high first.
+pub fn hash(hi: u64, lo: u64, r: [u64; 32]) -> [u8; 16]
+    ensures { λ h. ⌜ h ≡ macOf (drkOf hi lo) (4 ∷ wordsBytes 8 (drop 1 r)) ⌝ }
+{
+    let mut m = [0u8; 249];
+    m[0] = 4;
+    let mut i: usize = 1;
+    while i < 32 {
+        let word = text::big(r[i]);
+        text::put(&word, &mut m, i * 8 - 7);
+        i += 1;
+    }
+    cmac::sign(&crate::signing_words(hi, lo), &m)
+}
+
+// The hash with j xored into its last byte.
+fn count(h: &[u8; 16], j: u8) -> [u8; 16]
+    ensures { λ r. ⌜ r ≡ counted (now (h .entry)) j ⌝ }
+{
+    [
+        h[0],
+        h[1],
+        h[2],
+        h[3],
+        h[4],
+        h[5],
+        h[6],
+        h[7],
+        h[8],
+        h[9],
+        h[10],
+        h[11],
+        h[12],
+        h[13],
+        h[14],
+        h[15] ^ j,
+    ]
+}
+
+// The key stream of a hash.
+fn key_stream(hi: u64, lo: u64, h: &[u8; 16]) -> [u8; 256]
+    ensures { λ r. ⌜ r ≡ stream (drkOf hi lo) (now (h .entry)) ⌝ }
+{
+    let w = aes::expand(&crate::line_key(hi, lo));
+    let mut s = [0u8; 256];
+    let mut j: u8 = 0;
+    while j < 16 {
+        let block = aes::encipher(&w, &count(h, j));
+        text::put(&block, &mut s, (j as usize) * 16);
+        j += 1;
+    }
+    s
+}
+
+// The word of eight bytes, high first, from place k on.
+fn word_at(s: &[u8], k: usize) -> u64
+    requires { ⌜ k + 8 ≤ length (now s) ⌝ }
+    ensures { λ r. ⌜ r ≡ big (partAt k 8 (now (s .entry))) ⌝ }
+{
+    wide(s[k]) * 72057594037927936
+        + wide(s[k + 1]) * 281474976710656
+        + wide(s[k + 2]) * 1099511627776
+        + wide(s[k + 3]) * 4294967296
+        + wide(s[k + 4]) * 16777216
+        + wide(s[k + 5]) * 65536
+        + wide(s[k + 6]) * 256
+        + wide(s[k + 7])
+}
+
+// A byte as a word.
+fn wide(x: u8) -> u64
+    ensures { λ r. ⌜ (r ≡ x) × (r < 256) ⌝ }
+{
+    x as u64
+}
+
+// Hides R1 to R31 by the key stream of a hash, or brings them back.
+pub fn hide(hi: u64, lo: u64, h: &[u8; 16], r: [u64; 32]) -> [u64; 32]
+    ensures { λ q. ⌜ q ≡ xoredBehind 8 (stream (drkOf hi lo) (now (h .entry))) r ⌝ }
+{
+    let s = key_stream(hi, lo, h);
+    let mut q = r;
+    let mut i: usize = 1;
+    while i < 32 {
+        q[i] = r[i] ^ word_at(&s, i * 8 - 8);
+        i += 1;
+    }
+    q
+}
