@@ -1,0 +1,7 @@
+pub mod PartsBack
+pub mod Tagged
+pub mod Evicting
+pub mod Filling
+pub mod Following
+pub mod Dropping
+pub mod Everything

@@ -1,0 +1,30 @@
+-- How the code's values are read: the lent buffers with the key as a cached memory, the four counts, the number of a tag.
+use Prim.Native.Nat.{ℕ, _/_}
+use mathlib.Core.List.{List}
+use lib.ListN.{length}
+use lib.Dec.{eqb}
+use Rattle.lists.specs.If.{if}
+use Rattle.model.specs.Tags.{Tag, noTag, secureInstruction, secureData}
+use Rattle.model.specs.Log as log
+use Rattle.model.specs.Cached.{Cached}
+use Rattle.directory.specs.Direct.{direct}
+use Rattle.directory.proofs.DirectLaws.{direct-laws}
+use Rattle.keeps.specs.Good.{Good}
+use Rattle.sealing.specs.Lines.{drkOf}
+use Rattle.cache.specs.declared.slots.Counts.{Counts}
+
+-- the memory that is lent, under the DRK in two words, the high one first
+abbrev pub lent : ℕ → ℕ → List ℕ → List ℕ → List ℕ → List ℕ → Cached
+lent hi lo mem macs cache dir = record { key = drkOf hi lo; mem = mem; macs = macs; cache = cache; dir = dir }
+
+-- the four counts
+abbrev pub countsIn : Counts → log.Counts
+countsIn k = record { filled = k .filled; written = k .written; checked = k .checked; made = k .made }
+
+-- the tag of a number: 1 Secure Instruction, 2 Secure Data, any other none
+unfoldable pub tagNamed : ℕ → Tag
+tagNamed t = if (eqb t 1) secureInstruction (if (eqb t 2) secureData noTag)
+
+-- what refusals 101 to 104 let pass
+abbrev pub Fit : Cached → Type 0
+Fit s = Good direct direct-laws (length (s .mem) / 64) (length (s .dir)) s
