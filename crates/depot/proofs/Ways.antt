@@ -7,13 +7,12 @@ use native.Mathlib.Omega.{arith}
 use borrow.Author.Tests.{eq-eqb, ne-eqb}
 use lib.Dec.{eqb}
 use lib.ListN.{length, take, drop, drop-of-length-le, length-drop}
-use lib.Seq.{take-length, drop-length, take-all}
 use Rattle.lists.specs.Parts.{putAt}
 use Rattle.lists.specs.Bytes.{same}
 use Rattle.model.specs.Cipher.{Cipher}
 use Rattle.instructions.specs.Refusals.{bufferFlaws}
 use Rattle.instructions.specs.Depot.{Sealed, depotFlaws, depotSign, depotSeal, depotOpen}
-use Rattle.sealing.proofs.TextLaws.{rest-copied}
+use Rattle.lists.proofs.Copies.{rest-copied}
 use Rattle.depot.specs.Answer.{gave}
 
 -- sixteen bytes copied over the last sixteen of a line
@@ -25,11 +24,6 @@ mac-copied line mac size sixteen =
     rest-copied line mac 48 (omega arith)
     ∙ ap (λ (r : List ℕ). take 48 line ++ (mac ++ r)) (drop-of-length-le (drop 48 line) {i = length mac} (omega (arith, length-drop 48 line)))
     ∙ ap (λ (r : List ℕ). take 48 line ++ r) (append-nil mac)
-
--- bytes copied over a whole buffer of their length
-pub whole-copied : (src dst dst' : List ℕ) → length src ≡ length dst → dst' ≡ take (length src) src ++ drop (length src) dst → dst' ≡ src
-whole-copied src dst dst' e copy =
-    copy ∙ ap₂ _++_ (take-length src) (drop-of-length-le dst {i = length src} (omega arith)) ∙ append-nil src
 
 module _ (c : Cipher) (key : List ℕ) (a : ℕ) (line : List ℕ) where
   pub sign-106 : (a % 64 ≡ 0 → ⊥) → gave 106 line [] ≡ depotSign c key a line

@@ -4,3 +4,4 @@ pub mod WordLaws
 pub mod NthLaws
 pub mod Cases
 pub mod Xor
+pub mod Copies

@@ -49,20 +49,6 @@ pub pair-is : (a b : List ℕ) (x y : ℕ) → a ≡ bigBytes 8 x → b ≡ bigB
 unfolding drkOf bigBytes littleBytes
 pair-is a b x y e f = rw (e, f)
 
--- bytes copied to the rest of a buffer from place a on, as the code lends and gets back that rest
-pub rest-copied : (l src : List ℕ) (a : ℕ) → a + length src ≤ length l
-    → take a l ++ ((take (length src) src ++ drop (length src) (take (length l - a) (drop a l))) ++ drop (length l - a) (drop a l))
-    ≡ putAt a (length src) src l
-unfolding putAt
-rest-copied l src a h =
-    let rest = drop a l in
-    let size : length rest ≡ length l - a = length-drop a l in
-    ap (λ (r : List ℕ). take a l ++ r)
-    (ap₂ (λ (p q : List ℕ). p ++ q)
-    (ap₂ (λ (p q : List ℕ). p ++ drop (length src) q) (take-length src) (take-all (length l - a) rest (omega (arith, size))))
-    (drop-of-length-le rest {i = length l - a} (omega (arith, size)))
-    ∙ append-nil (src ++ drop (length src) rest))
-
 -- a byte, eight bytes and the rest, laid down one after the other
 pub text-laid : (prefix address : ℕ) (bytes out : List ℕ) → length out ≡ 9 + length bytes
     → putAt 9 (length bytes) bytes (putAt 1 8 (bigBytes 8 address) (set out 0 prefix)) ≡ signedText prefix address bytes

@@ -1,7 +1,8 @@
 -- `depot::seal` meets its promise.
 use Rattle.ciphers.specs.Cipher.{aesCipher}
 use Rattle.sealing.specs.Lines.{drkOf}
-use Rattle.depot.proofs.Ways.{seal-106, seal-107, seal-107-mac, seal-done, whole-copied}
+use Rattle.depot.proofs.Ways.{seal-106, seal-107, seal-107-mac, seal-done}
+use Rattle.lists.proofs.Copies.{whole-copied}
 use borrow.Author.Needs.{needs}
 use Rattle.depot.proofs.seal.Statement.{statement}
 use Rattle.depot.proofs.seal.Tie as tie

@@ -1,5 +1,5 @@
 -- `sealing::text::put` meets its promise.
-use Rattle.sealing.proofs.TextLaws.{rest-copied}
+use Rattle.lists.proofs.Copies.{rest-copied}
 use lib.ListN.{length, take, drop}
 use Prim.Native.Nat.{ℕ, _-_}
 use mathlib.Core.List.{List, _++_}
