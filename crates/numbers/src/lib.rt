@@ -1,7 +1,9 @@
-// Numbers of 64 bits: the next one of a pseudo-random sequence, and the block of two.
+// Numbers of 64 bits for programs that compare: the next one of a pseudo-random sequence, and the bytes of one or two.
+ghost use mathlib.Core.Path.{_≡_};
+ghost use lib.ListN.{length};
 
 // The number after x in Marsaglia's sequence xorshift64.
-pub(crate) fn next(x: u64) -> u64 {
+pub fn next(x: u64) -> u64 {
     let a = x ^ (x << 13);
     let b = a ^ (a >> 7);
     b ^ (b << 17)
@@ -13,7 +15,9 @@ fn low(x: u64) -> u8 {
 }
 
 // The sixteen bytes of two numbers, the highest first.
-pub(crate) fn block(x: u64, y: u64) -> [u8; 16] {
+pub fn block(x: u64, y: u64) -> [u8; 16]
+    ensures { λ r. ⌜ length r ≡ 16 ⌝ }
+{
     [
         low(x / 72057594037927936),
         low(x / 281474976710656),

@@ -2,8 +2,8 @@
 use borrow.Author.Needs.{needs}
 use Prim.Native.Nat.{_≤_, _-_}
 use lib.ListN.{length}
-use Rattle.aes_vectors.proofs.file.line_end.Statement.{statement}
-use Rattle.aes_vectors.proofs.file.line_end.Tie as tie
+use Rattle.vectors.proofs.response.line_end.Statement.{statement}
+use Rattle.vectors.proofs.response.line_end.Tie as tie
 
 abbrev Inv-loop : tie.InvT-loop
 Inv-loop text from at₀ at = (from ≤ at) × (at ≤ length text)
