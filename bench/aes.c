@@ -5,7 +5,7 @@
 #include <string.h>
 #include <time.h>
 
-#include "hq_aes.h"
+#include "hq_ciphers.h"
 #include "plain_aes.h"
 
 enum { TURNS = 2000, REPETITIONS = 600 };
