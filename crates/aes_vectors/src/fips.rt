@@ -22,10 +22,13 @@ pub(crate) fn key_expansion() -> Tally {
 }
 
 // One vector in both directions.
-fn both(t: Tally, key: Block, plain: Block, cipher: Block) -> Tally {
-    let there = entry::enciphers(key, plain, cipher);
-    let back = entry::deciphers(key, plain, cipher);
-    tally::with(tally::with(t, there), back)
+fn both(t: Tally, key: Block, plain: Block, coded: Block) -> Tally {
+    let is_whole = key.is_whole && plain.is_whole && coded.is_whole;
+    let k = key.bytes;
+    let p = plain.bytes;
+    let c = coded.bytes;
+    let there = tally::with(t, is_whole && entry::enciphers(&k, &p, &c));
+    tally::with(there, is_whole && entry::deciphers(&k, &p, &c))
 }
 
 // Appendices B and C.1, both directions.

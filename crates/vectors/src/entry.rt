@@ -1,39 +1,40 @@
 // Whether `aes` gives the answer of a vector of one block.
-use crate::hex::Block;
+ghost use mathlib.Core.Path.{_≡_};
+ghost use mathlib.Core.Bool.{true};
+ghost use Rattle.aes.specs.Cipher.{cipher, invCipher};
+ghost use Rattle.aes.specs.Schedule.{keyExpansion};
+ghost use Rattle.aes.specs.Chain.{cbcEncrypt, cbcDecrypt};
 
-// Whether a vector was read whole.
-fn is_whole(key: Block, plain: Block, cipher: Block) -> bool {
-    key.is_whole && plain.is_whole && cipher.is_whole
+// Whether the plain block is enciphered to the coded block under the key.
+pub fn enciphers(key: &[u8; 16], plain: &[u8; 16], coded: &[u8; 16]) -> bool
+    ensures { λ r. ⌜ (r ≡ true → cipher (keyExpansion (now (key .entry))) (now (plain .entry)) ≡ now (coded .entry)) ⌝ }
+{
+    let answer = aes::encipher(&aes::expand(key), plain);
+    check::same(&answer, coded)
 }
 
-// Whether the plain block is enciphered to the cipher block under the key.
-pub fn enciphers(key: Block, plain: Block, cipher: Block) -> bool {
-    let w = aes::expand(&key.bytes);
-    let answer = aes::encipher(&w, &plain.bytes);
-    let expected = cipher.bytes;
-    is_whole(key, plain, cipher) && check::same(&answer, &expected)
+// Whether the coded block is deciphered to the plain block under the key.
+pub fn deciphers(key: &[u8; 16], plain: &[u8; 16], coded: &[u8; 16]) -> bool
+    ensures { λ r. ⌜ (r ≡ true → invCipher (keyExpansion (now (key .entry))) (now (coded .entry)) ≡ now (plain .entry)) ⌝ }
+{
+    let answer = aes::decipher(key, coded);
+    check::same(&answer, plain)
 }
 
-// Whether the cipher block is deciphered to the plain block under the key.
-pub fn deciphers(key: Block, plain: Block, cipher: Block) -> bool {
-    let answer = aes::decipher(&key.bytes, &cipher.bytes);
-    let expected = plain.bytes;
-    is_whole(key, plain, cipher) && check::same(&answer, &expected)
+// Whether CBC encrypts the plain block to the coded block under the key and the initialization vector.
+pub fn encrypts(key: &[u8; 16], iv: &[u8; 16], plain: [u8; 16], coded: &[u8; 16]) -> bool
+    ensures { λ r. ⌜ (r ≡ true → cbcEncrypt (keyExpansion (now (key .entry))) (now (iv .entry)) plain ≡ now (coded .entry)) ⌝ }
+{
+    let mut answer = plain;
+    aes::chain::encrypt(&aes::expand(key), iv, &mut answer);
+    check::same(&answer, coded)
 }
 
-// Whether CBC encrypts the plain block to the cipher block under the key and the initialization vector.
-pub fn encrypts(key: Block, iv: Block, plain: Block, cipher: Block) -> bool {
-    let w = aes::expand(&key.bytes);
-    let mut answer = plain.bytes;
-    aes::chain::encrypt(&w, &iv.bytes, &mut answer);
-    let expected = cipher.bytes;
-    iv.is_whole && is_whole(key, plain, cipher) && check::same(&answer, &expected)
-}
-
-// Whether CBC decrypts the cipher block to the plain block under the key and the initialization vector.
-pub fn decrypts(key: Block, iv: Block, plain: Block, cipher: Block) -> bool {
-    let mut answer = cipher.bytes;
-    aes::chain::decrypt(&key.bytes, &iv.bytes, &mut answer);
-    let expected = plain.bytes;
-    iv.is_whole && is_whole(key, plain, cipher) && check::same(&answer, &expected)
+// Whether CBC decrypts the coded block to the plain block under the key and the initialization vector.
+pub fn decrypts(key: &[u8; 16], iv: &[u8; 16], plain: &[u8; 16], coded: [u8; 16]) -> bool
+    ensures { λ r. ⌜ (r ≡ true → cbcDecrypt (keyExpansion (now (key .entry))) (now (iv .entry)) coded ≡ now (plain .entry)) ⌝ }
+{
+    let mut answer = coded;
+    aes::chain::decrypt(key, iv, &mut answer);
+    check::same(&answer, plain)
 }

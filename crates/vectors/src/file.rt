@@ -12,32 +12,39 @@ pub enum Mode {
 
 // Whether an entry of single blocks comes out right.
 fn is_right_block(r: Reading) -> bool {
+    let key = r.key;
+    let plain = r.plain;
+    let coded = r.coded;
     if r.is_deciphering {
-        entry::deciphers(r.key, r.plain, r.cipher)
+        entry::deciphers(&key, &plain, &coded)
     } else {
-        entry::enciphers(r.key, r.plain, r.cipher)
+        entry::enciphers(&key, &plain, &coded)
     }
 }
 
 // Whether an entry with an initialization vector comes out right.
 fn is_right_chain(r: Reading) -> bool {
+    let key = r.key;
+    let iv = r.iv;
+    let plain = r.plain;
+    let coded = r.coded;
     if r.is_deciphering {
-        entry::decrypts(r.key, r.iv, r.plain, r.cipher)
+        entry::decrypts(&key, &iv, &plain, coded)
     } else {
-        entry::encrypts(r.key, r.iv, r.plain, r.cipher)
+        entry::encrypts(&key, &iv, plain, &coded)
     }
 }
 
-// A tally with the entry that the last line ended, if it ended one.
+// A tally with the entry that the last line ended, if it ended one; an entry with a line missing or cut is wrong.
 fn judged(t: Tally, mode: Mode, r: Reading) -> Tally {
     if !r.is_entry {
         return t;
     }
-    let is_right = match mode {
-        Mode::Ecb => is_right_block(r),
-        Mode::Cbc => is_right_chain(r),
-    };
-    tally::with(t, is_right)
+    let lines = r.lines;
+    match mode {
+        Mode::Ecb => tally::with(t, lines == 3 && is_right_block(r)),
+        Mode::Cbc => tally::with(t, lines == 4 && is_right_chain(r)),
+    }
 }
 
 // The entries of a text.

@@ -1,41 +1,32 @@
 // A response file: entries of a key, an initialization vector where the mode has one, a plain and a cipher block, in a section for each direction.
 use crate::hex;
 use crate::hex::Block;
-ghost use mathlib.Core.Path.{_≡_};
-ghost use mathlib.Core.Bool.{false};
 ghost use Prim.Native.Nat.{_+_, _≤_, _<_};
 ghost use lib.ListN.{length};
 ghost use Rattle.io.specs.Counts.{Counts};
 
-// What was read so far: whether the section deciphers, the last block of each kind, whether the last line ended an entry, and where the next line stands.
+// What was read so far: whether the section deciphers, the last block of each kind, how many whole blocks the entry has so far, whether the last line ended it, and where the next line stands.
 pub struct Reading {
     pub is_deciphering: bool,
-    pub key: Block,
-    pub iv: Block,
-    pub plain: Block,
-    pub cipher: Block,
+    pub key: [u8; 16],
+    pub iv: [u8; 16],
+    pub plain: [u8; 16],
+    pub coded: [u8; 16],
+    pub lines: u8,
     pub is_entry: bool,
     pub next: usize,
 }
 
-// A block that was not there.
-fn nothing() -> Block {
-    Block {
-        bytes: [0u8; 16],
-        is_whole: false,
-    }
-}
-
 // Nothing read yet.
-pub(crate) fn begun() -> Reading
-    ensures { λ r. ⌜ (r .next ≡ 0) × (r .«is_entry» ≡ false) ⌝ }
-{
+pub(crate) fn begun() -> Reading {
+    let nothing = [0u8; 16];
     Reading {
         is_deciphering: false,
-        key: nothing(),
-        iv: nothing(),
-        plain: nothing(),
-        cipher: nothing(),
+        key: nothing,
+        iv: nothing,
+        plain: nothing,
+        coded: nothing,
+        lines: 0,
         is_entry: false,
         next: 0,
     }
@@ -51,51 +42,68 @@ pub(crate) fn load(path: &[u8], buffer: &mut [u8]) -> usize
     n
 }
 
-// A line that ends an entry or does not.
-fn ended(r: Reading, is_entry: bool) -> Reading {
-    let mut q = r;
-    q.is_entry = is_entry;
-    q
+// How many whole blocks an entry has after one more.
+fn counted(lines: u8, b: Block) -> u8 {
+    if !b.is_whole {
+        return 0;
+    }
+    if 3 < lines {
+        return 0;
+    }
+    lines + 1
 }
 
 // A line with a section's direction.
 fn with_direction(r: Reading, is_deciphering: bool) -> Reading {
     let mut q = r;
     q.is_deciphering = is_deciphering;
-    ended(q, false)
+    q
 }
 
-// A line with a key.
+// A line with a key, which begins an entry.
 fn with_key(r: Reading, b: Block) -> Reading {
     let mut q = r;
-    q.key = b;
-    ended(q, false)
+    let bytes = b.bytes;
+    q.key = bytes;
+    q.lines = counted(0, b);
+    q
 }
 
 // A line with an initialization vector.
 fn with_iv(r: Reading, b: Block) -> Reading {
     let mut q = r;
-    q.iv = b;
-    ended(q, false)
+    let bytes = b.bytes;
+    q.iv = bytes;
+    q.lines = counted(r.lines, b);
+    q
 }
 
 // A line with a plain block, which ends an entry where the section deciphers.
 fn with_plain(r: Reading, b: Block) -> Reading {
     let mut q = r;
-    q.plain = b;
-    ended(q, r.is_deciphering)
+    let bytes = b.bytes;
+    q.plain = bytes;
+    q.lines = counted(r.lines, b);
+    q.is_entry = r.is_deciphering;
+    q
 }
 
 // A line with a cipher block, which ends an entry where the section enciphers.
-fn with_cipher(r: Reading, b: Block) -> Reading {
+fn with_coded(r: Reading, b: Block) -> Reading {
     let mut q = r;
-    q.cipher = b;
-    ended(q, !r.is_deciphering)
+    let bytes = b.bytes;
+    q.coded = bytes;
+    q.lines = counted(r.lines, b);
+    q.is_entry = !r.is_deciphering;
+    q
 }
 
-// A line of no known kind: an entry that is not whole.
+// A line of no known kind: an entry of no lines.
 fn with_unknown(r: Reading) -> Reading {
-    ended(with_key(r, nothing()), true)
+    let mut q = r;
+    q.lines = 0;
+    q.is_entry = true;
+    q
 }
 
 // Whether a line begins with a word.
@@ -115,12 +123,12 @@ fn is_aside(line: &[u8]) -> bool {
 // The block whose digits stand in a line from a place on.
 fn block_at(line: &[u8], from: usize) -> Block {
     if line.len() < from {
-        return nothing();
+        return hex::block_of(b"");
     }
     hex::block_of(&line[from..])
 }
 
-// The reading after one line more.
+// The reading after one line more, whose block may end the entry.
 fn with_line(r: Reading, line: &[u8]) -> Reading {
     if begins(line, b"KEY = ") {
         return with_key(r, block_at(line, 6));
@@ -132,7 +140,7 @@ fn with_line(r: Reading, line: &[u8]) -> Reading {
         return with_plain(r, block_at(line, 12));
     }
     if begins(line, b"CIPHERTEXT = ") {
-        return with_cipher(r, block_at(line, 13));
+        return with_coded(r, block_at(line, 13));
     }
     if begins(line, b"[ENCRYPT]") {
         return with_direction(r, false);
@@ -141,7 +149,7 @@ fn with_line(r: Reading, line: &[u8]) -> Reading {
         return with_direction(r, true);
     }
     if is_aside(line) {
-        return ended(r, false);
+        return r;
     }
     with_unknown(r)
 }
@@ -167,7 +175,9 @@ pub(crate) fn after_line(text: &[u8], at: usize, r: Reading) -> Reading
     ensures { λ q. ⌜ (at < q .next) × (q .next ≤ length (now (text .entry)) + 1) ⌝ }
 {
     let end = line_end(text, at);
-    let mut q = with_line(r, &text[at..end]);
+    let mut begun = r;
+    begun.is_entry = false;
+    let mut q = with_line(begun, &text[at..end]);
     q.next = end + 1;
     q
 }
