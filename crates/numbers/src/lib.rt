@@ -1,9 +1,12 @@
 // Numbers of 64 bits for programs that compare: the next one of a pseudo-random sequence, and the bytes of one or two.
 ghost use mathlib.Core.Path.{_≡_};
 ghost use lib.ListN.{length};
+ghost use Rattle.numbers.specs.Numbers.{xorshift};
 
 // The number after x in Marsaglia's sequence xorshift64.
-pub fn next(x: u64) -> u64 {
+pub fn next(x: u64) -> u64
+    ensures { λ r. ⌜ r ≡ xorshift x ⌝ }
+{
     let a = x ^ (x << 13);
     let b = a ^ (a >> 7);
     b ^ (b << 17)
