@@ -4,28 +4,10 @@
 #include <stdio.h>
 #include <string.h>
 
-#include "hq_aes.h"
+#include "hq_ciphers.h"
+#include "numbers.h"
 
 enum { PAIRS = 100000 };
-
-/* The next number of the sequence xorshift64, from a fixed seed. */
-static uint64_t next_number(void)
-{
-    static uint64_t x = 88172645463325252u;
-    x ^= x << 13;
-    x ^= x >> 7;
-    x ^= x << 17;
-    return x;
-}
-
-/* Sixteen pseudo-random bytes. */
-static void fill(uint8_t out[16])
-{
-    for (int i = 0; i < 16; i += 8) {
-        uint64_t x = next_number();
-        memcpy(out + i, &x, 8);
-    }
-}
 
 /* One block under a key by OpenSSL, enciphered or deciphered; 0 where OpenSSL fails. */
 static int by_openssl(EVP_CIPHER_CTX *ctx, int enciphers, const uint8_t key[16], const uint8_t block[16], uint8_t out[16])
@@ -60,8 +42,8 @@ int main(void)
         return 1;
     for (int i = 0; i < PAIRS; i++) {
         uint8_t key[16], block[16];
-        fill(key);
-        fill(block);
+        fill(key, 16);
+        fill(block, 16);
         wrong += differences(ctx, key, block);
     }
     EVP_CIPHER_CTX_free(ctx);

@@ -1,5 +1,4 @@
 // Compares `aes` with `bitwise_aes`, which shares no table and no code with it, in both directions, and writes on how many pairs of a key and a block they differ.
-mod numbers;
 mod pairs;
 
 // The seed of the pseudo-random pairs.

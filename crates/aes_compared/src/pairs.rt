@@ -1,5 +1,4 @@
 // Pairs of a key and a block, and whether the two ciphers agree on them.
-use crate::numbers;
 use tally::Tally;
 
 // Whether two blocks have the same bytes.

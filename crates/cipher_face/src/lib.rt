@@ -1,7 +1,10 @@
-// The cipher for programs in C: `aes` under plain names that begin with hq_, for tests and benchmarks beside other ciphers.
+// The ciphers for programs in C: `aes`, `cmac` and `sealing` under plain names that begin with hq_, for tests and benchmarks beside other ciphers.
 ghost use mathlib.Core.Path.{_≡_};
 ghost use Rattle.aes.specs.Cipher.{cipher, invCipher};
 ghost use Rattle.aes.specs.Schedule.{keyExpansion};
+ghost use Rattle.aes.specs.Chain.{cbcEncrypt, cbcDecrypt};
+ghost use Rattle.cmac.specs.Cmac.{cmac};
+ghost use Rattle.sealing.specs.Lines.{drkOf, enciphered, deciphered};
 
 // KeyExpansion: the 44 words of a key go to w.
 #[no_mangle]
@@ -28,4 +31,45 @@ pub extern "C" fn hq_aes_decipher(key: &[u8; 16], block: &[u8; 16], out: &mut [u
 {
     let r = aes::decipher(key, block);
     *out = r;
+}
+
+// CBC encryption of all whole blocks of a buffer, in place, under the words of a key schedule.
+#[no_mangle]
+pub extern "C" fn hq_cbc_encrypt(w: &[u32; 44], iv: &[u8; 16], bytes: &mut [u8])
+    ensures { λ _. ⌜ now (bytes .exit) ≡ cbcEncrypt (now (w .entry)) (now (iv .entry)) (now (bytes .entry)) ⌝ }
+{
+    aes::chain::encrypt(w, iv, bytes);
+}
+
+// CBC decryption of all whole blocks of a buffer, in place, under a key.
+#[no_mangle]
+pub extern "C" fn hq_cbc_decrypt(key: &[u8; 16], iv: &[u8; 16], bytes: &mut [u8])
+    ensures { λ _. ⌜ now (bytes .exit) ≡ cbcDecrypt (keyExpansion (now (key .entry))) (now (iv .entry)) (now (bytes .entry)) ⌝ }
+{
+    aes::chain::decrypt(key, iv, bytes);
+}
+
+// CMAC: the MAC of a message under the words of a key schedule goes to out.
+#[no_mangle]
+pub extern "C" fn hq_cmac(w: &[u32; 44], m: &[u8], out: &mut [u8; 16])
+    ensures { λ _. ⌜ now (out .exit) ≡ cmac (now (w .entry)) (now (m .entry)) ⌝ }
+{
+    let r = cmac::sign(w, m);
+    *out = r;
+}
+
+// Seals the data line at an address, in place, under a DRK of two words, the high one first.
+#[no_mangle]
+pub extern "C" fn hq_seal(hi: u64, lo: u64, address: u64, line: &mut [u8])
+    ensures { λ _. ⌜ now (line .exit) ≡ enciphered (drkOf hi lo) address (now (line .entry)) ⌝ }
+{
+    sealing::seal(hi, lo, address, line);
+}
+
+// Opens the sealed data line at an address, in place, under a DRK of two words, the high one first.
+#[no_mangle]
+pub extern "C" fn hq_unseal(hi: u64, lo: u64, address: u64, line: &mut [u8])
+    ensures { λ _. ⌜ now (line .exit) ≡ deciphered (drkOf hi lo) address (now (line .entry)) ⌝ }
+{
+    sealing::unseal(hi, lo, address, line);
 }

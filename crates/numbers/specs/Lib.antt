@@ -1,0 +1,2 @@
+-- What the numbers of a comparison are.
+pub mod Numbers

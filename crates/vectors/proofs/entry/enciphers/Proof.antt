@@ -1,0 +1,10 @@
+-- `enciphers` answers true only where the definition gives the answer: what was compared is what `aes` promises.
+use borrow.Author.Needs.{needs}
+use Rattle.vectors.proofs.entry.enciphers.Statement.{statement}
+use Rattle.vectors.proofs.entry.enciphers.Tie as tie
+
+pub enciphers-spec : {M : Type 1} → statement M
+enciphers-spec =
+    tie.close
+    (tie.spec (λ c κs. search needs) (λ c κs. search needs) (λ c. search needs) (λ c κs. search needs)
+    (λ c. λ h. rw (← c .before .before .before .before .before .expand .ensures, ← c .before .before .before .encipher .ensures) (c .same .ensures .0 h)))
