@@ -64,7 +64,7 @@ fn key_stream(hi: u64, lo: u64, h: &[u8; 16]) -> [u8; 256]
 }
 
 // The word of eight bytes, high first, from place k on.
-fn word_at(s: &[u8], k: usize) -> u64
+pub fn word_at(s: &[u8], k: usize) -> u64
     requires { ⌜ k + 8 ≤ length (now s) ⌝ }
     ensures { λ r. ⌜ r ≡ big (partAt k 8 (now (s .entry))) ⌝ }
 {

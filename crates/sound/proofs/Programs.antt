@@ -157,7 +157,7 @@ module _ (B : Board) (words : ℕ) (whole : words * B .wordBytes ≡ 64) (N M : 
       (λ f. rw (h, f) at z))
       (λ h. absurd (eqb-false (fetchFault M r) 0 h (rw h at z)))
 
-  data-fair : (got : Got) → FairWish N (dataWish B M r got)
+  pub data-fair : (got : Got) → FairWish N (dataWish B M r got)
   unfolding dataWish hasAddress isData isChecked
   data-fair got =
       by-test (eqb (knownFault B M r got) 0)

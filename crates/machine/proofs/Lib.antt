@@ -1,0 +1,3 @@
+pub mod WordsLaws
+pub mod Serving
+pub mod Granted

@@ -1,0 +1,3 @@
+// The machine: memory phases, one instruction, and run.
+pub mod phase;
+mod words;

@@ -1,0 +1,4 @@
+pub mod Choices
+pub mod Deciding
+pub mod Suspending
+pub mod Executing

@@ -1,0 +1,8 @@
+// The processor's registers: fields, faults and the effect of each instruction, on plain values.
+pub mod decide;
+pub mod execute;
+pub mod faults;
+pub mod fields;
+pub mod finish;
+pub mod record;
+pub mod suspend;
