@@ -1,3 +1,4 @@
+-- The laws of `aes`, file by file.
 pub mod WordLaws
 pub mod RoundLaws
 pub mod ScheduleLaws

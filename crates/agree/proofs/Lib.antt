@@ -1,3 +1,4 @@
+-- The laws of `agree`, file by file.
 pub mod Update
 pub mod Evict
 pub mod Fill

@@ -1,1 +1,2 @@
+-- What `agree` means, file by file.
 pub mod Agree

@@ -1,1 +1,2 @@
+-- The laws of `bus`, file by file.
 pub mod Transfers

@@ -1,1 +1,2 @@
+-- What `bus` means, file by file.
 pub mod Handles

@@ -1,1 +1,2 @@
+-- The laws of `ciphers`, file by file.
 pub mod Laws

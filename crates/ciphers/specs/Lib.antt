@@ -1,1 +1,2 @@
+-- What `ciphers` means, file by file.
 pub mod Cipher

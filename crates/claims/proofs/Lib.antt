@@ -1,1 +1,2 @@
+-- The laws of `claims`, file by file.
 pub mod Proofs

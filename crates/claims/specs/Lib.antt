@@ -1,1 +1,2 @@
+-- What `claims` means, file by file.
 pub mod Claims

@@ -1,1 +1,2 @@
+-- What `demand3` means, file by file.
 pub mod Statement

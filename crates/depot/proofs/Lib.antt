@@ -1,1 +1,2 @@
+-- The laws of `depot`, file by file.
 pub mod Ways

@@ -1,1 +1,2 @@
+-- What `depot` means, file by file.
 pub mod Answer

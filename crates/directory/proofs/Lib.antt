@@ -1,3 +1,4 @@
+-- The laws of `directory`, file by file.
 pub mod NumberLaws
 pub mod DirectLaws
 pub mod Scan

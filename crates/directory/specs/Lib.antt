@@ -1,2 +1,3 @@
+-- What `directory` means, file by file.
 pub mod Numbers
 pub mod Direct

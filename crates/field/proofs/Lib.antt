@@ -1,3 +1,4 @@
+-- The laws of `field`, file by file.
 pub mod Every
 pub mod Tables
 pub mod Xor

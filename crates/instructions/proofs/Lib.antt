@@ -1,3 +1,4 @@
+-- The laws of `instructions`, file by file.
 pub mod Sane
 pub mod Phases
 pub mod Marked

@@ -1,3 +1,4 @@
+-- What `instructions` means, file by file.
 pub mod Rules
 pub mod Board
 pub mod Record

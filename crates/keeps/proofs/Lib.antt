@@ -1,3 +1,4 @@
+-- The laws of `keeps`, file by file.
 pub mod Evict
 pub mod Access
 pub mod Requests

@@ -1,3 +1,4 @@
+-- The laws of `lists`, file by file.
 pub mod PartLaws
 pub mod ByteLaws
 pub mod WordLaws

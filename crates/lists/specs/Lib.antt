@@ -1,3 +1,4 @@
+-- What `lists` means, file by file.
 pub mod If
 pub mod Parts
 pub mod Bytes

@@ -1,3 +1,4 @@
+-- The laws of `model`, file by file.
 pub mod LineLaws
 pub mod Perform
 pub mod Sums

@@ -1,3 +1,4 @@
+-- What `model` means, file by file.
 pub mod Tags
 pub mod Cipher
 pub mod CipherLaws

@@ -1,3 +1,4 @@
+-- The laws of `sound`, file by file.
 pub mod Programs
 pub mod Lent
 pub mod Refused

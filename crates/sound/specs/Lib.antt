@@ -1,2 +1,3 @@
+-- What `sound` means, file by file.
 pub mod BoardLaws
 pub mod Acceptable
