@@ -35,8 +35,9 @@ static const struct {
 #undef FIELD
 };
 
-/* How often each answer was given, for --answers. */
+/* How often each answer was given, and what the runs did in sum, for --answers. */
 static uint64_t answers[CALL_KINDS][128];
+static struct outcome sums;
 
 /* The bytes of each buffer that belong to a scenario, the slack behind them included. */
 static struct lengths watched(const struct scenario *s)
@@ -107,7 +108,7 @@ static struct outcome machine_call(const struct board_calls *f, struct board *b,
 static void make_call(const struct board_calls *f, struct board *b, const struct call *c)
 {
     const struct change *g = &c->change;
-    uint8_t before[8];
+    uint8_t before[sizeof g->bytes];
     memcpy(b->transfer, c->transfer, TRANSFER_ROOM);
     memcpy(b->mac, c->mac, MAC_ROOM);
     memset(b->row, 0x77, sizeof b->row);
@@ -197,6 +198,17 @@ static void print_call(uint64_t seed, uint64_t number, size_t at, const struct c
     printf("  before it: pc 0x%" PRIx64 ", mode %" PRIu32 ", EPC 0x%" PRIx64 ", cause %" PRIu32 ", lock %" PRIu32 "\n", before->pc, before->mode, before->epc, before->cause, before->drk_lock);
 }
 
+/* Adds what a call gave to the numbers for --answers. */
+static void note(enum call_kind kind, const struct outcome *out)
+{
+    answers[kind][out->answer & 127]++;
+    sums.steps += out->steps;
+    sums.counts.filled += out->counts.filled;
+    sums.counts.written += out->counts.written;
+    sums.counts.checked += out->counts.checked;
+    sums.counts.made += out->counts.made;
+}
+
 /* Runs one scenario on both; the number of its calls, or 0 after a difference was printed. */
 static size_t run_scenario(const struct scenario *s, uint64_t seed, uint64_t number)
 {
@@ -207,7 +219,7 @@ static size_t run_scenario(const struct scenario *s, uint64_t seed, uint64_t num
         struct board_record before = model.record;
         make_call(&model_calls, &model, &s->calls[i]);
         make_call(&machine_under_test, &other, &s->calls[i]);
-        answers[s->calls[i].kind][model.out.answer & 127]++;
+        note(s->calls[i].kind, &model.out);
         if (boards_differ(&model, &other, s)) {
             print_call(seed, number, i + 1, &s->calls[i], &before);
             return 0;
@@ -226,6 +238,8 @@ static void print_answers(void)
                 printf(" %d: %" PRIu64, answer, answers[kind][answer]);
         printf("\n");
     }
+    printf("steps %" PRIu64 ", lines filled %" PRIu64 ", written %" PRIu64, sums.steps, sums.counts.filled, sums.counts.written);
+    printf(", MACs checked %" PRIu64 ", made %" PRIu64 "\n", sums.counts.checked, sums.counts.made);
 }
 
 /* compare [scenarios [seed [first scenario [--answers]]]] */

@@ -22,6 +22,7 @@ struct maker {
     size_t lines;        /* memory lines that exist, at least 1 even where M is refused */
     size_t slots;        /* slots that exist, at least 1 */
     enum line_kind kinds[MEMORY_ROOM / LINE_BYTES];
+    bool calm;           /* the host changes nothing between the calls */
     bool mac_waits;      /* the call before wrote a sealed line whose MAC is still to be written */
     uint64_t waiting_line;
     uint8_t waiting_mac[MAC_BYTES];
@@ -94,20 +95,20 @@ static uint32_t memory_word(struct maker *k, bool secure)
     else if (odd < 4)
         address = 64 * k->lines - 16 + 4 * below(&k->c, 8);
     if (odd >= 75)
-        return word_of(op, a, 8 + below(&k->c, 8), 8 * below(&k->c, 16) - 32);
-    if (odd >= 70)
+        return word_of(op, a, 8 + below(&k->c, secure ? 4 : 8), 8 * below(&k->c, 16) - 32);
+    if (odd == 74)
         return word_of(op, a, below(&k->c, 32), any(&k->c));
     return word_of(op, a, address < 0x8000 ? 0 : 8, address);
 }
 
-/* A word that sets pc: beq, mostly within a few instructions, jr or rfi. */
-static uint32_t jump_word(struct maker *k)
+/* A word that sets pc, at a place (0 to 15) of its line: beq, mostly to a word of the same line, jr or rfi. */
+static uint32_t jump_word(struct maker *k, unsigned at)
 {
-    uint64_t kind = below(&k->c, 10);
-    if (kind < 6)
-        return word_of(8, below(&k->c, 4), often(k, 50) ? 0 : below(&k->c, 4), often(k, 90) ? below(&k->c, 24) - 8 : any(&k->c));
-    if (kind < 9)
-        return word_of(9, often(k, 85) ? 8 + below(&k->c, 8) : below(&k->c, 32), 0, any(&k->c));
+    uint64_t kind = below(&k->c, 20);
+    if (kind < 13)
+        return word_of(8, below(&k->c, 4), often(k, 50) ? 0 : below(&k->c, 4), often(k, 92) ? below(&k->c, 13) - at : any(&k->c));
+    if (kind < 19)
+        return word_of(9, often(k, 92) ? 12 + below(&k->c, 4) : below(&k->c, 32), 0, any(&k->c));
     return word_of(16, any(&k->c), any(&k->c), any(&k->c));
 }
 
@@ -138,8 +139,8 @@ static uint32_t buffer_word(struct maker *k)
     return word_of(op, op == 38 ? free_register(k) : below(&k->c, 32), below(&k->c, 32), 8 * below(&k->c, 8192) + sel);
 }
 
-/* An instruction word for code that is meant to run in active mode or not. */
-static uint32_t code_word(struct maker *k, bool active)
+/* An instruction word, at a place of its line, for code that is meant to run in active mode or not. */
+static uint32_t code_word(struct maker *k, bool active, unsigned at)
 {
     uint64_t kind = below(&k->c, 100);
     bool secure = active ? !often(k, 5) : often(k, 4);
@@ -148,12 +149,12 @@ static uint32_t code_word(struct maker *k, bool active)
     if (kind < 40)
         return memory_word(k, secure);
     if (kind < 52)
-        return jump_word(k);
+        return jump_word(k, at);
     if (kind < 74)
         return base_word(k);
-    if (kind < 86)
+    if (kind < 89)
         return secure ? buffer_word(k) : base_word(k);
-    if (kind < 92)
+    if (kind < 93)
         return word_of(active ? 40 : 39, any(&k->c), any(&k->c), any(&k->c));
     if (kind < 94)
         return word_of(active ? 39 : 40, any(&k->c), any(&k->c), any(&k->c));
@@ -162,14 +163,30 @@ static uint32_t code_word(struct maker *k, bool active)
     return often(k, 40) ? word_of(43, any(&k->c), 0, 0) : often(k, 50) ? word_of(below(&k->c, 64), any(&k->c), any(&k->c), any(&k->c)) : (uint32_t)any(&k->c);
 }
 
-/* 64 bytes of instruction words; a handler has more rfi than other code. */
+/* An instruction word for the handler at 64, which also runs with encrypted registers: mostly rfi and what needs no address in a register. */
+static uint32_t handler_word(struct maker *k, unsigned at)
+{
+    uint64_t kind = below(&k->c, 100);
+    if (kind < 30)
+        return word_of(16, any(&k->c), any(&k->c), any(&k->c));
+    if (kind < 65)
+        return word_of(10 + below(&k->c, 2), below(&k->c, 32), 0, 8 * below(&k->c, 8 * (k->lines < 512 ? k->lines : 512)));
+    if (kind < 90)
+        return word_of(kind < 85 ? 1 + below(&k->c, 7) : 12 + 2 * below(&k->c, 2), free_register(k), below(&k->c, 32), any(&k->c));
+    return code_word(k, false, at);
+}
+
+/* 64 bytes of instruction words; code to be entered from normal mode begins with begin_cem.a. */
 static void code_bytes(struct maker *k, uint8_t *out, bool active, bool handler)
 {
-    for (int i = 0; i < 16; i++) {
-        uint32_t w = handler && often(k, 30) ? word_of(16, 0, 0, 0) : code_word(k, active);
-        if (i == 0 && active && often(k, 35))
+    bool begins = active && often(k, 15);
+    for (unsigned i = 0; i < 16; i++) {
+        uint32_t w = handler ? handler_word(k, i) : code_word(k, active, i);
+        if (i == (active ? 11 : 15) && often(k, 60))
+            w = jump_word(k, i);
+        if (i == 0 && begins)
             w = word_of(39, 0, 0, 0);
-        for (int j = 0; j < 4; j++)
+        for (unsigned j = 0; j < 4; j++)
             out[4 * i + j] = (uint8_t)(w >> 8 * j);
     }
 }
@@ -177,7 +194,7 @@ static void code_bytes(struct maker *k, uint8_t *out, bool active, bool handler)
 /* The bytes of a line of a kind at an address, under one of the two keys, and its MAC where it is sealed. */
 static void line_bytes(struct maker *k, enum line_kind kind, uint64_t address, uint8_t *out, uint8_t mac[MAC_BYTES])
 {
-    const uint64_t *key = k->keys[often(k, 12)];
+    const uint64_t *key = k->keys[often(k, 6)];
     if (kind == PLAIN_CODE || kind == SIGNED_CODE)
         code_bytes(k, out, kind == SIGNED_CODE, kind == PLAIN_CODE && address == 64);
     else
@@ -216,7 +233,7 @@ static void draw_memory(struct maker *k)
 {
     struct scenario *s = k->s;
     for (size_t line = 0; line < k->lines; line++)
-        k->kinds[line] = line == 1 && often(k, 60) ? PLAIN_CODE : line == 0 && often(k, 40) ? SIGNED_CODE : any_kind(k);
+        k->kinds[line] = line == 1 && often(k, 90) ? PLAIN_CODE : line == 0 && often(k, 40) ? SIGNED_CODE : any_kind(k);
     memset(s->memory, 0xa5, s->lengths.memory + SLACK);
     memset(s->macs, 0x5a, s->lengths.macs + SLACK);
     for (size_t line = 0; 64 * line + 64 <= s->lengths.memory; line++) {
@@ -277,10 +294,10 @@ static void draw_cache(struct maker *k)
         draw_slot(k, slot);
 }
 
-/* An address where code may stand. */
-static uint64_t code_address(struct maker *k)
+/* An address where code for a mode may stand. */
+static uint64_t code_address(struct maker *k, uint32_t mode)
 {
-    uint64_t line = line_made_as(k, often(k, 70) ? SIGNED_CODE : PLAIN_CODE);
+    uint64_t line = line_made_as(k, often(k, mode == ACTIVE ? 98 : 35) ? SIGNED_CODE : PLAIN_CODE);
     uint64_t odd = below(&k->c, 100);
     if (odd < 2)
         return any(&k->c) >> below(&k->c, 64);
@@ -300,9 +317,8 @@ static uint64_t any_value(struct maker *k)
 }
 
 /* Draws R1 to R31: the two keys in R4 to R7, line addresses in R8 to R15, anything else where nothing is said. */
-static void draw_registers(struct maker *k)
+static void draw_registers(struct maker *k, struct board_record *r)
 {
-    struct board_record *r = &k->s->record;
     for (int i = 1; i < 32; i++)
         r->r[i] = any_value(k);
     memcpy(&r->r[4], k->keys[1], 16);
@@ -314,10 +330,9 @@ static void draw_registers(struct maker *k)
 }
 
 /* Makes the record one that was suspended, its hash right or nearly so. */
-static void draw_suspended(struct maker *k)
+static void draw_suspended(struct maker *k, struct board_record *r)
 {
-    struct board_record *r = &k->s->record;
-    r->epc = r->interrupt_address = code_address(k);
+    r->epc = r->interrupt_address = code_address(k, ACTIVE);
     r->saved_pid = r->pid;
     r->saved_cid = r->cid;
     if (often(k, 20))
@@ -335,18 +350,19 @@ static void draw_suspended(struct maker *k)
         r->cid ^= 1;
 }
 
-static void draw_record(struct maker *k)
+static void draw_record(struct maker *k, struct board_record *r)
 {
-    struct board_record *r = &k->s->record;
+    uint64_t mode = below(&k->c, 100);
     memset(r, 0, sizeof *r);
+    r->mode = mode < 25 ? NORMAL : mode < 85 ? ACTIVE : SUSPENDED;
     memcpy(r->drk, k->keys[0], 16);
-    draw_registers(k);
+    draw_registers(k, r);
     for (int i = 0; i < 4; i++)
         r->srh[i] = any(&k->c);
     for (int i = 0; i < 4; i++)
         r->cem_buffer[i] = any(&k->c);
-    r->pc = code_address(k);
-    r->epc = code_address(k);
+    r->pc = code_address(k, r->mode);
+    r->epc = code_address(k, r->mode);
     r->interrupt_hash[0] = any(&k->c);
     r->interrupt_hash[1] = any(&k->c);
     r->interrupt_address = any_value(k);
@@ -356,10 +372,8 @@ static void draw_record(struct maker *k)
     r->saved_pid = often(k, 50) ? r->pid : (uint32_t)any(&k->c);
     r->saved_cid = often(k, 50) ? r->cid : (uint16_t)any(&k->c);
     r->drk_lock = often(k, 25);
-    uint64_t mode = below(&k->c, 100);
-    r->mode = mode < 30 ? NORMAL : mode < 80 ? ACTIVE : SUSPENDED;
     if (r->mode == SUSPENDED)
-        draw_suspended(k);
+        draw_suspended(k, r);
 }
 
 /* A line number for a call: mostly one that exists. */
@@ -400,11 +414,11 @@ static void change_record(struct maker *k, struct change *g)
     uint64_t at = below(&k->c, 31) + 1;
 #define CHANGES(field, value) (now.field = (value), g->offset = offsetof(struct board_record, field), g->size = sizeof now.field)
     if (kind < 55)
-        CHANGES(pc, code_address(k));
+        CHANGES(pc, code_address(k, ACTIVE));
     else if (kind < 75)
         CHANGES(mode, (uint32_t)(often(k, 60) ? ACTIVE : often(k, 90) ? below(&k->c, 3) : wrong_modes[below(&k->c, 4)]));
     else if (kind < 80)
-        CHANGES(epc, code_address(k));
+        CHANGES(epc, code_address(k, ACTIVE));
     else if (kind < 88)
         CHANGES(r[at], often(k, 50) ? k->s->record.r[at] : any_value(k));
     else if (kind < 90)
@@ -438,20 +452,27 @@ static void change_directory(struct maker *k, struct change *g)
     memcpy(g->bytes, &number, 4);
 }
 
-/* What the host changes before a call: nothing mostly, else a part of the record, a number of the directory or a byte of a buffer. */
+/* What the host changes before a call: nothing mostly, else the record or a part of it, a number of the directory or a byte of a buffer. */
 static void draw_change(struct maker *k, struct change *g)
 {
     const struct lengths *l = &k->s->lengths;
-    uint64_t kind = below(&k->c, 100);
-    memset(g, 0, sizeof *g);
-    if (kind < 28) {
+    uint64_t kind = k->calm ? 99 : below(&k->c, 100);
+    g->place = IN_RECORD;
+    g->offset = g->size = 0;
+    if (kind < 35) {
+        struct board_record again;
+        draw_record(k, &again);
+        g->place = IN_RECORD;
+        g->size = sizeof again;
+        memcpy(g->bytes, &again, sizeof again);
+    } else if (kind < 50) {
         g->place = IN_RECORD;
         change_record(k, g);
-    } else if (kind < 30) {
+    } else if (kind < 52) {
         g->place = IN_DIRECTORY;
         change_directory(k, g);
-    } else if (kind < 32) {
-        g->place = kind < 31 ? IN_MEMORY : often(k, 50) ? IN_MACS : IN_CACHE;
+    } else if (kind < 54) {
+        g->place = kind < 53 ? IN_MEMORY : often(k, 50) ? IN_MACS : IN_CACHE;
         size_t length = g->place == IN_MEMORY ? l->memory : g->place == IN_MACS ? l->macs : l->cache;
         g->size = length == 0 ? 0 : 1;
         g->offset = length == 0 ? 0 : below(&k->c, length);
@@ -590,10 +611,11 @@ void make_scenario(struct scenario *s, uint64_t seed, uint64_t number)
     k.c.state = any(&first) ^ number;
     for (int i = 0; i < 4; i++)
         k.keys[i / 2][i % 2] = any(&k.c);
+    k.calm = often(&k, 30);
     draw_lengths(&k);
     draw_memory(&k);
     draw_cache(&k);
-    draw_record(&k);
+    draw_record(&k, &s->record);
     s->call_count = 8 + below(&k.c, CALLS_AT_MOST - 8 + 1);
     for (size_t i = 0; i < s->call_count; i++)
         draw_call(&k, &s->calls[i]);

@@ -37,7 +37,7 @@ struct change {
     enum place place;
     size_t offset;
     size_t size;
-    uint8_t bytes[8];
+    uint8_t bytes[sizeof(struct board_record)];
 };
 
 /* One call with everything that it is lent beside the board. */
