@@ -486,7 +486,7 @@ static void draw_lent(struct maker *k, struct lengths *l)
     *l = k->s->lengths;
     if (!often(k, 3))
         return;
-    switch (below(&k->c, 6)) {
+    switch (below(&k->c, 8)) {
     case 0:
         l->memory -= l->memory == 0 ? 0 : below(&k->c, l->memory) / 32 + 1;
         break;
@@ -503,6 +503,12 @@ static void draw_lent(struct maker *k, struct lengths *l)
     case 4:
         l->directory -= l->directory == 0 ? 0 : 1;
         l->cache -= l->cache < 64 ? 0 : 64;
+        break;
+    case 5:
+        l->memory -= l->memory < 64 ? 0 : 64;
+        break;
+    case 6:
+        l->directory -= l->directory == 0 ? 0 : 1;
         break;
     default:
         l->memory = l->macs = 0;
