@@ -49,27 +49,27 @@ static bool memories_agree(void)
 }
 
 /* Makes one call but a listing on one of the two machines. */
-static struct outcome call_one(const struct board_calls *f, struct board_record *r, const struct lent *l, const struct call *c, uint64_t n, uint8_t *bytes)
+static struct outcome call_one(struct board_record *r, const struct lent *l, const struct call *c, uint64_t n, uint8_t *bytes)
 {
     switch (c->kind) {
     case CALL_RUN:
-        return f->run(r, l, n);
+        return model_calls.run(r, l, n);
     case CALL_INTERRUPT:
-        return f->interrupt(r, l);
+        return model_calls.interrupt(r, l);
     case CALL_BUS_READ:
-        return f->bus_read(r, l, n, bytes, c->length);
+        return model_calls.bus_read(r, l, n, bytes, c->length);
     case CALL_BUS_WRITE:
-        return f->bus_write(r, l, n, c->transfer, c->length);
+        return model_calls.bus_write(r, l, n, c->transfer, c->length);
     case CALL_BUS_WRITE_MAC:
-        return f->bus_write_mac(r, l, n, c->mac, c->mac_length);
+        return model_calls.bus_write_mac(r, l, n, c->mac, c->mac_length);
     case CALL_EVICT_LINE:
-        return f->evict_line(r, l, n);
+        return model_calls.evict_line(r, l, n);
     case CALL_WRITE_BACK:
-        return f->write_back(r, l);
+        return model_calls.write_back(r, l);
     case CALL_REBOOT:
-        return f->reboot(r, l);
+        return model_calls.reboot(r, l);
     default:
-        return f->power_cut(r, l);
+        return model_calls.power_cut(r, l);
     }
 }
 
@@ -79,8 +79,8 @@ static uint64_t call_both(const struct call *c, uint64_t n)
     struct lent with = {p.memory, p.lengths.memory, p.macs, p.lengths.macs, p.cache, p.lengths.cache, p.directory, p.lengths.directory};
     struct lent without = {p.plain_memory, p.lengths.memory, p.plain_macs, p.lengths.macs, NULL, 0, NULL, 0};
     uint8_t bytes[2][TRANSFER_ROOM] = {{0}};
-    struct outcome a = call_one(&model_calls, &p.cached, &with, c, n, bytes[0]);
-    struct outcome b = call_one(&model_without_cache, &p.plain, &without, c, n, bytes[1]);
+    struct outcome a = call_one(&p.cached, &with, c, n, bytes[0]);
+    struct outcome b = call_one(&p.plain, &without, c, n, bytes[1]);
     if (c->kind == CALL_POWER_CUT) {
         memcpy(p.plain_memory, p.memory, p.lengths.memory);
         memcpy(p.plain_macs, p.macs, p.lengths.macs);

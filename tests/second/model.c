@@ -534,6 +534,12 @@ static bool enter(struct machine *m)
     return m->out.answer == 0;
 }
 
+/* A call on what was lent; without a directory it is the machine without a cache. */
+static struct machine begin(struct board_record *r, const struct lent *lent)
+{
+    return (struct machine){.r = r, .lent = lent, .cached = lent->directory != NULL};
+}
+
 /* Everything zero but DRK and SRH, mode 0. */
 static void clear_record(struct board_record *r)
 {
@@ -543,8 +549,9 @@ static void clear_record(struct board_record *r)
     *r = kept;
 }
 
-static struct outcome run(struct machine m, uint64_t n)
+static struct outcome run(struct board_record *r, const struct lent *lent, uint64_t n)
 {
+    struct machine m = begin(r, lent);
     if (!enter(&m))
         return m.out;
     if (n > RUN_AT_MOST) {
@@ -558,15 +565,17 @@ static struct outcome run(struct machine m, uint64_t n)
     return m.out;
 }
 
-static struct outcome interrupt(struct machine m)
+static struct outcome interrupt(struct board_record *r, const struct lent *lent)
 {
+    struct machine m = begin(r, lent);
     if (enter(&m))
         enter_handler(m.r, 32);
     return m.out;
 }
 
-static struct outcome bus_read(struct machine m, uint64_t line, uint8_t *transfer, size_t length)
+static struct outcome bus_read(struct board_record *r, const struct lent *lent, uint64_t line, uint8_t *transfer, size_t length)
 {
+    struct machine m = begin(r, lent);
     if (!enter_with_line(&m, line, length, LINE_BYTES))
         return m.out;
     evict_that_line(&m, line);
@@ -574,8 +583,9 @@ static struct outcome bus_read(struct machine m, uint64_t line, uint8_t *transfe
     return m.out;
 }
 
-static struct outcome bus_write(struct machine m, uint64_t line, const uint8_t *transfer, size_t length)
+static struct outcome bus_write(struct board_record *r, const struct lent *lent, uint64_t line, const uint8_t *transfer, size_t length)
 {
+    struct machine m = begin(r, lent);
     if (!enter_with_line(&m, line, length, LINE_BYTES))
         return m.out;
     evict_that_line(&m, line);
@@ -583,8 +593,9 @@ static struct outcome bus_write(struct machine m, uint64_t line, const uint8_t *
     return m.out;
 }
 
-static struct outcome bus_write_mac(struct machine m, uint64_t line, const uint8_t *mac, size_t length)
+static struct outcome bus_write_mac(struct board_record *r, const struct lent *lent, uint64_t line, const uint8_t *mac, size_t length)
 {
+    struct machine m = begin(r, lent);
     if (!enter_with_line(&m, line, length, MAC_BYTES))
         return m.out;
     evict_that_line(&m, line);
@@ -592,22 +603,25 @@ static struct outcome bus_write_mac(struct machine m, uint64_t line, const uint8
     return m.out;
 }
 
-static struct outcome evict_line(struct machine m, uint64_t line)
+static struct outcome evict_line(struct board_record *r, const struct lent *lent, uint64_t line)
 {
+    struct machine m = begin(r, lent);
     if (enter_with_line(&m, line, 0, 0))
         evict_that_line(&m, line);
     return m.out;
 }
 
-static struct outcome write_back(struct machine m)
+static struct outcome write_back(struct board_record *r, const struct lent *lent)
 {
+    struct machine m = begin(r, lent);
     if (enter(&m))
         evict_all(&m);
     return m.out;
 }
 
-static struct outcome reboot(struct machine m)
+static struct outcome reboot(struct board_record *r, const struct lent *lent)
 {
+    struct machine m = begin(r, lent);
     if (!enter(&m))
         return m.out;
     evict_all(&m);
@@ -615,8 +629,9 @@ static struct outcome reboot(struct machine m)
     return m.out;
 }
 
-static struct outcome power_cut(struct machine m)
+static struct outcome power_cut(struct board_record *r, const struct lent *lent)
 {
+    struct machine m = begin(r, lent);
     if (!enter(&m))
         return m.out;
     for (size_t slot = 0; m.cached && slot < m.lent->directory_length; slot++)
@@ -626,8 +641,9 @@ static struct outcome power_cut(struct machine m)
     return m.out;
 }
 
-static struct outcome list_slots(struct machine m, struct line_record *row, size_t length)
+static struct outcome list_slots(struct board_record *r, const struct lent *lent, struct line_record *row, size_t length)
 {
+    struct machine m = begin(r, lent);
     if (!enter(&m) || !m.cached)
         return m.out;
     if (length != m.lent->directory_length) {
@@ -676,54 +692,6 @@ static uint64_t depot_open(const uint64_t drk[2], uint64_t address, uint8_t *lin
     return refusal;
 }
 
-/* Defines the calls of one machine under names that end in `end`, and their table. */
-#define MACHINE_CALLS(table, end, with_cache)                                                                                         \
-    static struct outcome run_##end(struct board_record *r, const struct lent *l, uint64_t n)                                         \
-    {                                                                                                                                 \
-        return run((struct machine){.r = r, .lent = l, .cached = with_cache}, n);                                                     \
-    }                                                                                                                                 \
-    static struct outcome interrupt_##end(struct board_record *r, const struct lent *l)                                               \
-    {                                                                                                                                 \
-        return interrupt((struct machine){.r = r, .lent = l, .cached = with_cache});                                                  \
-    }                                                                                                                                 \
-    static struct outcome bus_read_##end(struct board_record *r, const struct lent *l, uint64_t line, uint8_t *bytes, size_t length)  \
-    {                                                                                                                                 \
-        return bus_read((struct machine){.r = r, .lent = l, .cached = with_cache}, line, bytes, length);                              \
-    }                                                                                                                                 \
-    static struct outcome bus_write_##end(struct board_record *r, const struct lent *l, uint64_t line, const uint8_t *bytes,          \
-                                          size_t length)                                                                              \
-    {                                                                                                                                 \
-        return bus_write((struct machine){.r = r, .lent = l, .cached = with_cache}, line, bytes, length);                             \
-    }                                                                                                                                 \
-    static struct outcome bus_write_mac_##end(struct board_record *r, const struct lent *l, uint64_t line, const uint8_t *mac,        \
-                                              size_t length)                                                                          \
-    {                                                                                                                                 \
-        return bus_write_mac((struct machine){.r = r, .lent = l, .cached = with_cache}, line, mac, length);                           \
-    }                                                                                                                                 \
-    static struct outcome evict_line_##end(struct board_record *r, const struct lent *l, uint64_t line)                               \
-    {                                                                                                                                 \
-        return evict_line((struct machine){.r = r, .lent = l, .cached = with_cache}, line);                                           \
-    }                                                                                                                                 \
-    static struct outcome write_back_##end(struct board_record *r, const struct lent *l)                                              \
-    {                                                                                                                                 \
-        return write_back((struct machine){.r = r, .lent = l, .cached = with_cache});                                                 \
-    }                                                                                                                                 \
-    static struct outcome reboot_##end(struct board_record *r, const struct lent *l)                                                  \
-    {                                                                                                                                 \
-        return reboot((struct machine){.r = r, .lent = l, .cached = with_cache});                                                     \
-    }                                                                                                                                 \
-    static struct outcome power_cut_##end(struct board_record *r, const struct lent *l)                                               \
-    {                                                                                                                                 \
-        return power_cut((struct machine){.r = r, .lent = l, .cached = with_cache});                                                  \
-    }                                                                                                                                 \
-    static struct outcome list_slots_##end(struct board_record *r, const struct lent *l, struct line_record *row, size_t length)      \
-    {                                                                                                                                 \
-        return list_slots((struct machine){.r = r, .lent = l, .cached = with_cache}, row, length);                                    \
-    }                                                                                                                                 \
-    const struct board_calls table = {                                                                                                \
-        run_##end, interrupt_##end, bus_read_##end, bus_write_##end, bus_write_mac_##end, evict_line_##end, write_back_##end,         \
-        reboot_##end, power_cut_##end, list_slots_##end, depot_sign, depot_seal, depot_open,                                          \
-    }
-
-MACHINE_CALLS(model_calls, cached, true);
-MACHINE_CALLS(model_without_cache, plain, false);
+const struct board_calls model_calls = {
+    run, interrupt, bus_read, bus_write, bus_write_mac, evict_line, write_back, reboot, power_cut, list_slots, depot_sign, depot_seal, depot_open,
+};

@@ -4,10 +4,10 @@
 
 #include "board.h"
 
-/* The machine with a cache. */
+/*
+ * The machine with a cache; where the lent directory is NULL, the machine without one: then cache bytes and their refusals don't matter, all
+ * counts are 0 and a listing does nothing.
+ */
 extern const struct board_calls model_calls;
-
-/* The machine without a cache: cache bytes and directory are not looked at, all counts are 0, a listing does nothing. */
-extern const struct board_calls model_without_cache;
 
 #endif

@@ -56,6 +56,20 @@ static void any_bytes(struct maker *k, uint8_t *out, size_t length)
     }
 }
 
+/* Turns one bit of some bytes. */
+static void damage(struct maker *k, uint8_t *bytes, size_t length)
+{
+    size_t at = below(&k->c, length);
+    bytes[at] ^= (uint8_t)(1 << below(&k->c, 8));
+}
+
+/* A number of at most 64 bits, small ones as often as large ones. */
+static uint64_t any_size(struct maker *k)
+{
+    uint64_t bits = below(&k->c, 64);
+    return any(&k->c) >> bits;
+}
+
 /* A line made as a kind, where one is found in a few tries; else any line. */
 static uint64_t line_made_as(struct maker *k, enum line_kind kind)
 {
@@ -68,10 +82,17 @@ static uint64_t line_made_as(struct maker *k, enum line_kind kind)
     return line;
 }
 
-/* Opcode, fields and 16 low bits as an instruction word. */
+/* Opcode, fields and 16 low bits as an instruction word. Draws stand before it, one a statement, so that their order is fixed. */
 static uint32_t word_of(uint64_t op, uint64_t a, uint64_t b, uint64_t low)
 {
     return (uint32_t)(op << 26 | (a & 31) << 21 | (b & 31) << 16 | (low & 0xffff));
+}
+
+/* An opcode with anything in its fields. */
+static uint32_t any_fields(struct maker *k, uint64_t op)
+{
+    uint64_t rest = any(&k->c) >> 38;
+    return (uint32_t)(op << 26 | rest);
 }
 
 /* A register that may be overwritten: not one of R4 to R15, which hold keys and addresses. */
@@ -84,59 +105,63 @@ static uint64_t free_register(struct maker *k)
 /* load, store, secure_load or secure_store, mostly to an address where it makes sense. */
 static uint32_t memory_word(struct maker *k, bool secure)
 {
-    uint64_t op = (secure ? 41 : 10) + below(&k->c, 2);
+    bool loads = often(k, 50);
+    uint64_t op = (secure ? 41 : 10) + !loads;
     enum line_kind kind = secure ? SEALED_DATA : often(k, 50) ? PLAIN_CODE : ANY_BYTES;
     uint64_t line = often(k, 85) ? line_made_as(k, kind) : below(&k->c, k->lines);
     uint64_t address = 64 * line + 8 * below(&k->c, 8);
-    unsigned odd = (unsigned)below(&k->c, 100);
-    uint64_t a = op % 2 == (secure ? 1 : 0) ? free_register(k) : below(&k->c, 32);
+    uint64_t a = loads ? free_register(k) : below(&k->c, 32);
+    uint64_t odd = below(&k->c, 100), other = any(&k->c);
     if (odd < 2)
-        address += below(&k->c, 8);
+        address += other % 8;
     else if (odd < 4)
-        address = 64 * k->lines - 16 + 4 * below(&k->c, 8);
-    if (odd >= 75)
-        return word_of(op, a, 8 + below(&k->c, secure ? 4 : 8), 8 * below(&k->c, 16) - 32);
-    if (odd == 74)
-        return word_of(op, a, below(&k->c, 32), any(&k->c));
+        address = 64 * k->lines - 16 + 4 * (other % 8);
+    else if (odd < 5)
+        return word_of(op, a, other >> 16, other);
+    else if (odd < 30)
+        return word_of(op, a, 8 + (other >> 16) % (secure ? 4 : 8), 8 * (other % 16) - 32);
     return word_of(op, a, address < 0x8000 ? 0 : 8, address);
 }
 
 /* A word that sets pc, at a place (0 to 15) of its line: beq, mostly to a word of the same line, jr or rfi. */
 static uint32_t jump_word(struct maker *k, unsigned at)
 {
-    uint64_t kind = below(&k->c, 20);
+    uint64_t kind = below(&k->c, 20), x = any(&k->c);
+    bool near = often(k, 92);
     if (kind < 13)
-        return word_of(8, below(&k->c, 4), often(k, 50) ? 0 : below(&k->c, 4), often(k, 92) ? below(&k->c, 13) - at : any(&k->c));
+        return word_of(8, x >> 16 & 3, x >> 18 & 1 ? 0 : x >> 19 & 3, near ? x % 13 - at : x);
     if (kind < 19)
-        return word_of(9, often(k, 92) ? 12 + below(&k->c, 4) : below(&k->c, 32), 0, any(&k->c));
-    return word_of(16, any(&k->c), any(&k->c), any(&k->c));
+        return word_of(9, near ? 12 + (x >> 16) % 4 : x >> 16, 0, x);
+    return any_fields(k, 16);
 }
 
 /* A word of the base: opcodes 1 to 7 and 12 to 16. */
 static uint32_t base_word(struct maker *k)
 {
-    static const uint8_t others[5] = {12, 13, 14, 15, 16};
-    uint64_t op = often(k, 75) ? 1 + below(&k->c, 7) : others[below(&k->c, 5)];
-    uint64_t a = op == 13 ? 8 + below(&k->c, 8) : op == 15 ? below(&k->c, 32) : free_register(k);
-    return word_of(op, a, below(&k->c, 32), any(&k->c));
+    uint64_t op = often(k, 75) ? 1 + below(&k->c, 7) : 12 + below(&k->c, 5);
+    uint64_t x = any(&k->c);
+    uint64_t a = op == 13 ? 8 + (x >> 32) % 8 : op == 15 ? x >> 32 : free_register(k);
+    return word_of(op, a, x >> 16, x);
 }
 
 /* drk.set, mostly with one of the scenario's two keys. */
 static uint32_t drk_set_word(struct maker *k)
 {
-    uint64_t sel = often(k, 95) ? 0 : below(&k->c, 8);
-    uint64_t unused = 8 * below(&k->c, 8192);
+    uint64_t x = any(&k->c);
+    uint64_t low = often(k, 95) ? x & ~(uint64_t)7 : x;
     if (often(k, 10))
-        return word_of(32, below(&k->c, 32), below(&k->c, 32), unused + sel);
-    return often(k, 60) ? word_of(32, 6, 7, unused + sel) : word_of(32, 4, 5, unused + sel);
+        return word_of(32, x >> 16, x >> 21, low);
+    return often(k, 60) ? word_of(32, 6, 7, low) : word_of(32, 4, 5, low);
 }
 
 /* One of opcodes 33 to 38: lock rarely, the others mostly with a sel that is listed. */
 static uint32_t buffer_word(struct maker *k)
 {
     uint64_t op = often(k, 4) ? 33 : 34 + below(&k->c, 5);
-    uint64_t sel = often(k, 90) ? (op == 37 ? 2 * below(&k->c, 2) : below(&k->c, 4)) : below(&k->c, 8);
-    return word_of(op, op == 38 ? free_register(k) : below(&k->c, 32), below(&k->c, 32), 8 * below(&k->c, 8192) + sel);
+    uint64_t x = any(&k->c);
+    uint64_t a = op == 38 ? free_register(k) : x >> 32;
+    uint64_t unlisted = op == 37 ? 5 : 4;
+    return word_of(op, a, x >> 16, often(k, 90) ? x & ~unlisted : x);
 }
 
 /* An instruction word, at a place of its line, for code that is meant to run in active mode or not. */
@@ -155,24 +180,27 @@ static uint32_t code_word(struct maker *k, bool active, unsigned at)
     if (kind < 89)
         return secure ? buffer_word(k) : base_word(k);
     if (kind < 93)
-        return word_of(active ? 40 : 39, any(&k->c), any(&k->c), any(&k->c));
+        return any_fields(k, active ? 40 : 39);
     if (kind < 94)
-        return word_of(active ? 39 : 40, any(&k->c), any(&k->c), any(&k->c));
+        return any_fields(k, active ? 39 : 40);
     if (kind < 97)
         return drk_set_word(k);
-    return often(k, 40) ? word_of(43, any(&k->c), 0, 0) : often(k, 50) ? word_of(below(&k->c, 64), any(&k->c), any(&k->c), any(&k->c)) : (uint32_t)any(&k->c);
+    return any_fields(k, often(k, 40) ? 43 : any(&k->c) >> 58);
 }
 
 /* An instruction word for the handler at 64, which also runs with encrypted registers: mostly rfi and what needs no address in a register. */
 static uint32_t handler_word(struct maker *k, unsigned at)
 {
-    uint64_t kind = below(&k->c, 100);
+    uint64_t kind = below(&k->c, 100), x = any(&k->c);
+    uint64_t words = 8 * (k->lines < 512 ? k->lines : 512);
     if (kind < 30)
-        return word_of(16, any(&k->c), any(&k->c), any(&k->c));
+        return any_fields(k, 16);
     if (kind < 65)
-        return word_of(10 + below(&k->c, 2), below(&k->c, 32), 0, 8 * below(&k->c, 8 * (k->lines < 512 ? k->lines : 512)));
+        return word_of(x >> 63 ? 10 : 11, x >> 32, 0, 8 * (x % words));
+    if (kind < 85)
+        return word_of(1 + (x >> 32) % 7, free_register(k), x >> 16, x);
     if (kind < 90)
-        return word_of(kind < 85 ? 1 + below(&k->c, 7) : 12 + 2 * below(&k->c, 2), free_register(k), below(&k->c, 32), any(&k->c));
+        return word_of(x >> 63 ? 12 : 14, free_register(k), x >> 16, x);
     return code_word(k, false, at);
 }
 
@@ -241,9 +269,9 @@ static void draw_memory(struct maker *k)
         any_bytes(k, mac, MAC_BYTES);
         line_bytes(k, k->kinds[line], 64 * line, s->memory + 64 * line, mac);
         if (often(k, 3))
-            s->memory[64 * line + below(&k->c, 64)] ^= (uint8_t)(1 << below(&k->c, 8));
+            damage(k, s->memory + 64 * line, LINE_BYTES);
         if (often(k, 3))
-            mac[below(&k->c, 16)] ^= (uint8_t)(1 << below(&k->c, 8));
+            damage(k, mac, MAC_BYTES);
         if (16 * line + 16 <= s->lengths.macs)
             memcpy(s->macs + 16 * line, mac, MAC_BYTES);
     }
@@ -300,7 +328,7 @@ static uint64_t code_address(struct maker *k, uint32_t mode)
     uint64_t line = line_made_as(k, often(k, mode == ACTIVE ? 98 : 35) ? SIGNED_CODE : PLAIN_CODE);
     uint64_t odd = below(&k->c, 100);
     if (odd < 2)
-        return any(&k->c) >> below(&k->c, 64);
+        return any_size(k);
     if (odd < 3)
         return 64 * k->lines + 4 * below(&k->c, 3);
     return 64 * line + (odd < 40 ? 0 : odd < 50 ? 44 : 4 * below(&k->c, 16));
@@ -313,7 +341,7 @@ static uint64_t any_value(struct maker *k)
         return ~(uint64_t)0 >> below(&k->c, 64);
     if (kind == 1)
         return below(&k->c, 3);
-    return any(&k->c) >> below(&k->c, 64);
+    return any_size(k);
 }
 
 /* Draws R1 to R31: the two keys in R4 to R7, line addresses in R8 to R15, anything else where nothing is said. */
@@ -341,7 +369,7 @@ static void draw_suspended(struct maker *k, struct board_record *r)
     xor_key_stream(r->drk, r->interrupt_hash, r->r);
     uint64_t odd = below(&k->c, 100);
     if (odd < 5)
-        r->r[1 + below(&k->c, 31)] ^= (uint64_t)1 << below(&k->c, 64);
+        damage(k, (uint8_t *)&r->r[1], 31 * 8);
     else if (odd < 8)
         r->epc += 4;
     else if (odd < 11)
@@ -559,7 +587,9 @@ static void draw_depot(struct maker *k, struct call *call)
         call->number += 1 + below(&k->c, 63);
     memcpy(call->drk, k->keys[often(k, 50)], 16);
     if (often(k, 30))
-        call->drk[below(&k->c, 2)] = any_value(k);
+        call->drk[0] = any_value(k);
+    if (often(k, 10))
+        call->drk[1] = any_value(k);
     any_bytes(k, call->transfer, TRANSFER_ROOM);
     any_bytes(k, call->mac, MAC_ROOM);
     if (call->kind != CALL_OPEN)
@@ -567,9 +597,9 @@ static void draw_depot(struct maker *k, struct call *call)
     seal_line(call->drk, call->number, call->transfer, call->transfer, call->mac);
     uint64_t odd = below(&k->c, 100);
     if (odd < 10)
-        call->transfer[below(&k->c, 64)] ^= (uint8_t)(1 << below(&k->c, 8));
+        damage(k, call->transfer, LINE_BYTES);
     else if (odd < 20)
-        call->mac[below(&k->c, 16)] ^= (uint8_t)(1 << below(&k->c, 8));
+        damage(k, call->mac, MAC_BYTES);
     else if (odd < 24)
         call->number ^= 64;
 }

@@ -65,7 +65,7 @@ struct scenario {
     struct call calls[CALLS_AT_MOST];
 };
 
-/* Makes the scenario of a seed and a number: the same one each time, from the same compiler (the order of draws within one expression is its choice). */
+/* Makes the scenario of a seed and a number; the same two give the same scenario, whatever the compiler. */
 void make_scenario(struct scenario *s, uint64_t seed, uint64_t number);
 
 /* A sequence of pseudo-random numbers (splitmix64). */

@@ -2,5 +2,4 @@
 #include "compare.h"
 
 #define model_calls machine_under_test
-#define model_without_cache stub_without_cache
 #include "model.c"
