@@ -2,6 +2,7 @@
 #include "compare.h"
 
 #include <inttypes.h>
+#include <signal.h>
 #include <stdbool.h>
 #include <stdio.h>
 #include <stdlib.h>
@@ -38,6 +39,13 @@ static const struct {
 /* How often each answer was given, and what the runs did in sum, for --answers. */
 static uint64_t answers[CALL_KINDS][128];
 static struct outcome sums;
+
+/* Where the comparison is, for the report of a crash. */
+static struct {
+    uint64_t seed, scenario;
+    size_t call;
+    enum call_kind kind;
+} at;
 
 /* The bytes of each buffer that belong to a scenario, the slack behind them included. */
 static struct lengths watched(const struct scenario *s)
@@ -130,7 +138,9 @@ static void make_call(const struct board_calls *f, struct board *b, const struct
 static bool numbers_differ(const char *what, uint64_t model, uint64_t other)
 {
     if (model != other)
-        printf("  %s: the model gives %" PRIu64 " (0x%" PRIx64 "), the machine under test %" PRIu64 " (0x%" PRIx64 ")\n", what, model, model, other, other);
+        printf("  %s: the model gives %" PRIu64 " (0x%" PRIx64 ")", what, model, model);
+    if (model != other)
+        printf(", the machine under test %" PRIu64 " (0x%" PRIx64 ")\n", other, other);
     return model != other;
 }
 
@@ -187,15 +197,33 @@ static bool boards_differ(const struct board *a, const struct board *b, const st
     return differ;
 }
 
-/* Prints the call at which the boards differ. */
-static void print_call(uint64_t seed, uint64_t number, size_t at, const struct call *c, const struct board_record *before)
+/* Prints the place where the comparison is. */
+static void print_place(const char *what)
 {
-    printf("seed %" PRIu64 ", scenario %" PRIu64 ", call %zu (%s): the machine under test differs from the model, as above\n", seed, number, at, call_names[c->kind]);
-    printf("  lent: memory %zu, MAC area %zu, cache bytes %zu, directory %zu\n", c->lengths.memory, c->lengths.macs, c->lengths.cache, c->lengths.directory);
-    printf("  number 0x%" PRIx64 ", length %zu, MAC length %zu, DRK %016" PRIx64 "%016" PRIx64 "\n", c->number, c->length, c->mac_length, c->drk[0], c->drk[1]);
+    printf("seed %" PRIu64 ", scenario %" PRIu64 ", call %zu (%s): %s\n", at.seed, at.scenario, at.call, call_names[at.kind], what);
+}
+
+/* Reports a crash and ends the program. */
+static void crashed(int signal_number)
+{
+    printf("signal %d\n", signal_number);
+    print_place("the machine under test crashed");
+    fflush(stdout);
+    _Exit(1);
+}
+
+/* Prints the call at which the boards differ. */
+static void print_call(const struct call *c, const struct board_record *before)
+{
+    print_place("the machine under test differs from the model, as above");
+    printf("  lent: memory %zu, MAC area %zu", c->lengths.memory, c->lengths.macs);
+    printf(", cache bytes %zu, directory %zu\n", c->lengths.cache, c->lengths.directory);
+    printf("  number 0x%" PRIx64 ", length %zu, MAC length %zu", c->number, c->length, c->mac_length);
+    printf(", DRK %016" PRIx64 "%016" PRIx64 "\n", c->drk[0], c->drk[1]);
     if (c->change.size != 0)
-        printf("  the host changed %zu bytes at %zu of part %d\n", c->change.size, c->change.offset, (int)c->change.place);
-    printf("  before it: pc 0x%" PRIx64 ", mode %" PRIu32 ", EPC 0x%" PRIx64 ", cause %" PRIu32 ", lock %" PRIu32 "\n", before->pc, before->mode, before->epc, before->cause, before->drk_lock);
+        printf("  the host changed %zu bytes at %zu of part %d before it\n", c->change.size, c->change.offset, (int)c->change.place);
+    printf("  after the call before it: pc 0x%" PRIx64 ", mode %" PRIu32 ", EPC 0x%" PRIx64, before->pc, before->mode, before->epc);
+    printf(", cause %" PRIu32 ", lock %" PRIu32 "\n", before->cause, before->drk_lock);
 }
 
 /* Adds what a call gave to the numbers for --answers. */
@@ -210,18 +238,20 @@ static void note(enum call_kind kind, const struct outcome *out)
 }
 
 /* Runs one scenario on both; the number of its calls, or 0 after a difference was printed. */
-static size_t run_scenario(const struct scenario *s, uint64_t seed, uint64_t number)
+static size_t run_scenario(const struct scenario *s)
 {
     static struct board model, other;
     start(&model, s);
     start(&other, s);
     for (size_t i = 0; i < s->call_count; i++) {
         struct board_record before = model.record;
+        at.call = i + 1;
+        at.kind = s->calls[i].kind;
         make_call(&model_calls, &model, &s->calls[i]);
         make_call(&machine_under_test, &other, &s->calls[i]);
         note(s->calls[i].kind, &model.out);
         if (boards_differ(&model, &other, s)) {
-            print_call(seed, number, i + 1, &s->calls[i], &before);
+            print_call(&s->calls[i], &before);
             return 0;
         }
     }
@@ -250,9 +280,13 @@ int main(int argc, char **argv)
     uint64_t seed = argc > 2 ? strtoull(argv[2], NULL, 0) : 1;
     uint64_t first = argc > 3 ? strtoull(argv[3], NULL, 0) : 0;
     uint64_t calls = 0;
+    at.seed = seed;
+    signal(SIGSEGV, crashed);
+    signal(SIGABRT, crashed);
     for (uint64_t i = first; i < first + scenarios; i++) {
+        at.scenario = i;
         make_scenario(&s, seed, i);
-        size_t made = run_scenario(&s, seed, i);
+        size_t made = run_scenario(&s);
         if (made == 0)
             return 1;
         calls += made;

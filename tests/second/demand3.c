@@ -39,7 +39,9 @@ static void start(const struct scenario *s, size_t slots)
 static bool memories_agree(void)
 {
     struct board_record record = p.cached;
-    struct lent l = {p.copy_memory, p.lengths.memory, p.copy_macs, p.lengths.macs, p.copy_cache, p.lengths.cache, p.copy_directory, p.lengths.directory};
+    struct lent l = {
+        p.copy_memory, p.lengths.memory, p.copy_macs, p.lengths.macs, p.copy_cache, p.lengths.cache, p.copy_directory, p.lengths.directory,
+    };
     memcpy(p.copy_memory, p.memory, p.lengths.memory);
     memcpy(p.copy_macs, p.macs, p.lengths.macs);
     memcpy(p.copy_cache, p.cache, p.lengths.cache);

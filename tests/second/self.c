@@ -334,7 +334,8 @@ static void try_traps(void)
     memcpy(old_mac, t.macs + 48, 16);
     expect(run(&t, 2) == 0 && memcmp(t.r.drk, key_b, 16) == 0, "drk.set with a dirty line");
     counts_are(&t, 2, 1, 2, 1, "drk.set seals the dirty line");
-    expect(open_line(key_a, 192, t.memory + 192, t.macs + 48, plain) && get_high_first(plain) == 0xefcdab8967452301, "trap 1: dirty lines belong to the old key");
+    expect(open_line(key_a, 192, t.memory + 192, t.macs + 48, plain), "trap 1: dirty lines belong to the old key");
+    expect(get_high_first(plain) == 0xefcdab8967452301, "trap 1: the word that was stored");
     fresh(&t, ACTIVE);
     put(&t, 128, word(1, 1, 1, 0));
     expect(run(&t, 1) == 0 && t.directory[2] != 0, "a signed line runs");
@@ -399,7 +400,9 @@ static void refuses(uint64_t answer, struct trial *t, const char *what)
 
 static void try_refusals(void)
 {
-    static const uint32_t wrong_numbers[8] = {2, 1 | 3 << 1, 1 | 1 << 14, 1 | 4 << 4, 1 | 1 << 4 | 1 << 31, 1 | 1 << 1 | 8 | 1 << 4, 1 | 2 << 4, 1 | 5 << 4};
+    static const uint32_t wrong_numbers[8] = {
+        2, 1 | 3 << 1 | 1 << 4, 1 | 1 << 4 | 1 << 14, 1 | 4 << 4, 1 | 1 << 4 | 1u << 31, 1 | 1 << 1 | 8 | 1 << 4, 1 | 2 << 4, 1 | 5 << 4,
+    };
     struct trial t;
     fresh(&t, NORMAL);
     t.directory[1] = 2;
@@ -445,7 +448,8 @@ static void try_later_refusals(void)
     expect(model_calls.list_slots(&t.r, &t.lent, row, 5).answer == 110, "refusal 110");
     t.directory[1] = 1 | 2 << 1 | 8 | 1 << 4;
     expect(model_calls.list_slots(&t.r, &t.lent, row, 4).answer == 0, "a listing");
-    expect(row[1].used == 1 && row[1].line == 1 && row[1].tag == 2 && row[1].dirty == 1 && row[0].used == 0 && row[0].line == 0, "the rows of a listing");
+    expect(row[1].used == 1 && row[1].line == 1 && row[1].tag == 2 && row[1].dirty == 1, "the row of a used slot");
+    expect(row[0].used == 0 && row[0].line == 0 && row[0].tag == 0 && row[0].dirty == 0, "the row of an empty slot");
 }
 
 static void try_depot(void)
@@ -457,7 +461,8 @@ static void try_depot(void)
     memcpy(sealed, line, 64);
     expect(model_calls.seal(key_a, 1, sealed, 1, mac, 1) == 106 && model_calls.seal(key_a, 64, sealed, 64, mac, 15) == 107, "seal refuses");
     expect(model_calls.seal(key_a, ~(uint64_t)63, sealed, 64, mac, 16) == 0 && memcmp(sealed, line, 64) != 0, "seal");
-    expect(model_calls.open(key_b, ~(uint64_t)63, sealed, 64, mac, 16) == 109 && model_calls.open(key_a, 0, sealed, 64, mac, 16) == 109, "refusal 109");
+    expect(model_calls.open(key_b, ~(uint64_t)63, sealed, 64, mac, 16) == 109, "refusal 109, another key");
+    expect(model_calls.open(key_a, 0, sealed, 64, mac, 16) == 109, "refusal 109, another address");
     expect(model_calls.open(key_a, ~(uint64_t)63, sealed, 64, mac, 16) == 0 && memcmp(sealed, line, 64) == 0, "open");
 }
 
