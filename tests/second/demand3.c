@@ -75,6 +75,15 @@ static struct outcome call_one(struct board_record *r, const struct lent *l, con
     }
 }
 
+/* 'No instruction but drk.set fills or writes more than two lines': what a run of one gave; after a drk.set every slot is empty. */
+static bool within_bound(const struct counts *c)
+{
+    bool empty = true;
+    for (size_t slot = 0; slot < p.lengths.directory; slot++)
+        empty &= p.directory[slot] == 0;
+    return c->filled <= 2 && c->checked <= c->filled && c->made <= c->written && (c->written <= 2 || empty);
+}
+
 /* Makes one call on both and compares; the answer, or 1000 where they disagree. */
 static uint64_t call_both(const struct call *c, uint64_t n)
 {
@@ -89,6 +98,8 @@ static uint64_t call_both(const struct call *c, uint64_t n)
     }
     bool same = a.answer == b.answer && a.steps == b.steps && memcmp(&p.cached, &p.plain, sizeof p.plain) == 0
         && memcmp(bytes[0], bytes[1], sizeof bytes[0]) == 0 && memories_agree();
+    if (c->kind == CALL_RUN && n == 1)
+        expect(within_bound(&a.counts), "the bound of two lines for an instruction");
     return same ? a.answer : 1000;
 }
 
