@@ -1,3 +1,4 @@
 pub mod WordsLaws
 pub mod Serving
 pub mod Granted
+pub mod Stepping

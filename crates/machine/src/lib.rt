@@ -1,3 +1,4 @@
-// The machine: memory phases, one instruction, and run.
+// The machine: memory phases, and one instruction.
 pub mod phase;
+pub mod step;
 mod words;
