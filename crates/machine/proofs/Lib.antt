@@ -2,3 +2,4 @@ pub mod WordsLaws
 pub mod Serving
 pub mod Granted
 pub mod Stepping
+pub mod Running
