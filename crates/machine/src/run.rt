@@ -2,6 +2,7 @@
 use crate::step;
 use cache::slots;
 use cache::slots::Counts;
+use registers::record::Processor;
 use registers::record::Special;
 ghost use mathlib.Core.Path.{_≡_};
 ghost use Prim.Native.Nat.{_≤_};
@@ -62,6 +63,109 @@ pub fn steps(
         answer,
         steps: done,
         special: s,
+        counts: k,
+    }
+}
+
+// For each opcode: 0 it does not exist, 1 it exists, 2 it exists and needs active mode.
+const OPCODES: [u8; 64] = [
+    0,
+    1,
+    1,
+    1,
+    1,
+    1,
+    1,
+    1,
+    1,
+    1,
+    1,
+    1,
+    1,
+    1,
+    1,
+    1,
+    1,
+    0,
+    0,
+    0,
+    0,
+    0,
+    0,
+    0,
+    0,
+    0,
+    0,
+    0,
+    0,
+    0,
+    0,
+    0,
+    1,
+    1,
+    2,
+    2,
+    2,
+    2,
+    2,
+    1,
+    2,
+    2,
+    2,
+    1,
+    0,
+    0,
+    0,
+    0,
+    0,
+    0,
+    0,
+    0,
+    0,
+    0,
+    0,
+    0,
+    0,
+    0,
+    0,
+    0,
+    0,
+    0,
+    0,
+    0,
+];
+
+// What run gives: the answer, the steps, the record and the counts.
+pub struct Outcome {
+    pub answer: u64,
+    pub steps: u64,
+    pub processor: Processor,
+    pub counts: Counts,
+}
+
+// Run at most n instructions, on a record by value.
+pub fn run(
+    p: Processor,
+    mem: &mut [u8],
+    macs: &mut [u8],
+    cache: &mut [u8],
+    dir: &mut [u32],
+    n: u64,
+) -> Outcome
+    requires { ⌜ (128 ≤ length (now mem)) × (length (now dir) ≤ 64) × (n ≤ 10000) ⌝ }
+    requires { ⌜ Fit (lent (p .special .drkhi) (p .special .drklo) (now mem) (now macs) (now cache) (now dir)) ⌝ }
+    ensures { λ x. ⌜ Runs n (machineOf (p .r) (p .special) (now (mem .entry)) (now (macs .entry)) (now (cache .entry)) (now (dir .entry))) (x .answer) (x .steps) (countsIn (x .counts)) (machineOf (x .processor .r) (x .processor .special) (now (mem .exit)) (now (macs .exit)) (now (cache .exit)) (now (dir .exit))) ⌝ }
+{
+    let t = OPCODES;
+    let mut r = p.r;
+    let q = p.special;
+    let x = steps(&t, &mut r, q, mem, macs, cache, dir, n);
+    let s = x.special;
+    let k = x.counts;
+    Outcome {
+        answer: x.answer,
+        steps: x.steps,
+        processor: Processor { r, special: s },
         counts: k,
     }
 }
