@@ -5,7 +5,9 @@ ghost use mathlib.Core.Bool.{_&&_};
 ghost use Prim.Native.Nat.{_<_};
 ghost use lib.ListN.{length};
 ghost use Rattle.directory.specs.Direct.{fine, allFine};
-ghost use Rattle.instructions.specs.Refusals.{sizeFine};
+ghost use Rattle.instructions.specs.Rules.{firstOf};
+ghost use Rattle.instructions.specs.Board.{documentBoard};
+ghost use Rattle.instructions.specs.Refusals.{sizeFine, orElse, memoryFlaws, cacheFlaws};
 
 // Is a directory number right in its slot?
 fn right_number(lines: usize, c: usize, slot: usize, d: u32) -> bool
@@ -47,4 +49,27 @@ fn size_right(m: usize) -> bool
 {
     let a = fields::both(128 <= m, m <= 65536);
     fields::both(m % 64 == 0, a)
+}
+
+// The first of 101 to 104 that applies to what is lent, and 0 where none does.
+pub fn refuse_buffers(m: usize, a: usize, b: usize, dir: &[u32]) -> u64
+    ensures { λ n. ⌜ n ≡ orElse (firstOf (memoryFlaws m a)) (firstOf (cacheFlaws documentBoard m b (now (dir .entry)))) ⌝ }
+{
+    if !size_right(m) {
+        return 101;
+    }
+    if a != m / 4 {
+        return 102;
+    }
+    let c = dir.len();
+    if !fields::both(1 <= c, c <= 64) {
+        return 103;
+    }
+    if b != c * 64 {
+        return 103;
+    }
+    if !scan(m / 64, dir) {
+        return 104;
+    }
+    0
 }
