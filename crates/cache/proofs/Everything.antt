@@ -101,7 +101,7 @@ emptied-more n i s₀ s t k e r h E D q hd hm ha hc =
           ∙ ap₂ plus (ap (plus k) (sym (D .counted)) ∙ sym q) (ap (λ (z : Cached). countsOf (f z .log)) (sym (D .left))))));
     }
 
-plus-nothing : (a : Counts) → plus a noCounts ≡ a
+pub plus-nothing : (a : Counts) → plus a noCounts ≡ a
 unfolding plus noCounts
 plus-nothing a =
     let f : a .filled + 0 ≡ a .filled = omega arith in

@@ -1,3 +1,5 @@
 pub mod WordsLaws
 pub mod Serving
 pub mod Granted
+pub mod Stepping
+pub mod Running

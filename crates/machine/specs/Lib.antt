@@ -1,1 +1,3 @@
 pub mod Grants
+pub mod Steps
+pub mod Runs

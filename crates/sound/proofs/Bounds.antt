@@ -62,7 +62,7 @@ module _ (c : Cipher) (P : Placement) where
   wish-within (newKey key) s e = absurd (true≢false e)
 
   -- any wish fills at most one line and writes at most one more than the cache has slots
-  any-within : (wish : Wish) (s : Cached) → Within 1 (length (s .dir) + 1) (perform (cached c P) (grant wish) s .log)
+  pub any-within : (wish : Wish) (s : Cached) → Within 1 (length (s .dir) + 1) (perform (cached c P) (grant wish) s .log)
   unfolding perform grant cached cachedHandle takesKey
   any-within idle s = within-more 0 0 1 (length (s .dir) + 1) [] (omega arith) (omega arith) within-none
   any-within (word tag a k write v) s = within-more 1 1 1 (length (s .dir) + 1) (perform (cached c P) (grant (word tag a k write v)) s .log) (omega arith) (omega arith) (wish-within (word tag a k write v) s refl)
