@@ -1,3 +1,4 @@
+-- The laws of `cache`, file by file.
 pub mod PartsBack
 pub mod Tagged
 pub mod Evicting

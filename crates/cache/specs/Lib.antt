@@ -1,2 +1,3 @@
+-- What `cache` means, file by file.
 pub mod Lent
 pub mod Does

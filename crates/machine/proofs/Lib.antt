@@ -1,3 +1,4 @@
+-- The laws of `machine`, file by file.
 pub mod WordsLaws
 pub mod Serving
 pub mod Granted

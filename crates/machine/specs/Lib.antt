@@ -1,3 +1,4 @@
+-- What `machine` means, file by file.
 pub mod Grants
 pub mod Steps
 pub mod Runs

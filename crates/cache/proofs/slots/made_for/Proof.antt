@@ -1,14 +1,11 @@
+-- `cache::slots::made_for` meets its promise.
 use Rattle.cache.proofs.Tagged.{made-data, made-plain}
 use Rattle.cache.proofs.slots.made_for.Statement.{statement}
 use Rattle.cache.proofs.slots.made_for.Tie as tie
-use Rattle.cache.proofs.slots.made_for.Reads as reads
-use Rattle.cache.proofs.slots.made_for.Lts as lts
 
--- src/slots.rt:63:9
 returns : tie.Need-returns
 returns c = made-data _ (c .if1 .taken)
 
--- src/slots.rt:59:1
 returns-2 : tie.Need-returns-2
 returns-2 c = made-plain _ (c .if1 .left)
 

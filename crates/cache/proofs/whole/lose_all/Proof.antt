@@ -1,12 +1,10 @@
+-- `cache::whole::lose_all` meets its promise.
 use borrow.Author.Needs.{needs}
 use Prim.Native.Nat.{_-_}
 use native.Mathlib.Omega.{arith}
 use Rattle.cache.proofs.Everything.{Lost, lost-none, lost-more, lost-all}
 use Rattle.cache.proofs.whole.lose_all.Statement.{statement}
 use Rattle.cache.proofs.whole.lose_all.Tie as tie
-use Rattle.cache.proofs.whole.lose_all.Reads as reads
-use Rattle.cache.proofs.whole.lose_all.Lts as lts
-use Rattle.cache.proofs.whole.lose.Reads as lose-reads
 
 abbrev Inv-loop : tie.InvT-loop
 Inv-loop cache₀ dir₀ n i₀ cache dir i = Lost n i cache₀ dir₀ cache dir
@@ -14,35 +12,26 @@ Inv-loop cache₀ dir₀ n i₀ cache dir i = Lost n i cache₀ dir₀ cache dir
 abbrev μ-loop : tie.MeasureT-loop
 μ-loop cache₀ dir₀ n i₀ cache dir i = n - i
 
--- src/whole.rt:66:5
 loop-holds : tie.Need-loop-holds Inv-loop μ-loop
 loop-holds c = lost-none _ _ (c .before .before .pre)
 
--- src/whole.rt:67:9
 lose-requires : tie.Need-lose-requires Inv-loop μ-loop
-lose-requires c κs = (c .before .before .before .loop .inv .sizes, omega (arith, c .before .before .before .loop .inv .slots, c .before .before .before .loop .inv .places))
+lose-requires c κs =
+    let turn = c .before .before .before .loop in
+    (turn .inv .sizes, omega (arith, turn .inv .slots, turn .inv .places))
 
--- src/whole.rt:68:9
-add-i : tie.Need-add-i Inv-loop μ-loop
-add-i c = search needs
-
--- src/whole.rt:66:5
-loop-less : tie.Need-loop-less Inv-loop μ-loop
-loop-less c = search needs
-
--- src/whole.rt:66:5
 loop-again : tie.Need-loop-again Inv-loop μ-loop
-loop-again c = lost-more _ _ _ _ _ _ _ _ (c .before .before .before .before .before .before .before .loop-test .taken) (c .before .before .before .before .before .before .before .before .loop .inv) (c .before .before .before .before .lose .ensures) (c .before .before .before .before .lose .kept .0) (c .before .before .before .before .lose .kept .1 .0)
+loop-again c =
+    lost-more _ _ _ _ _ _ _ _ (c .before .before .before .before .before .before .before .loop-test .taken) (c .before .before .before .before .before
+    .before .before .before .loop .inv) (c .before .before .before .before .lose .ensures) (c .before .before .before .before .lose .kept .0) (c
+    .before .before .before .before .lose .kept .1 .0)
 
--- src/whole.rt:60:1
 same-length : tie.Need-same-length Inv-loop μ-loop
 same-length c = c .before .loop .inv .bytes
 
--- src/whole.rt:60:1
 same-length-2 : tie.Need-same-length-2 Inv-loop μ-loop
 same-length-2 c = c .before .loop .inv .places
 
--- src/whole.rt:60:1
 returns : tie.Need-returns Inv-loop μ-loop
 returns c = lost-all _ _ _ _ _ _ (c .loop-test .left) (c .before .loop .inv)
 
@@ -54,8 +43,8 @@ lose-all-spec =
     μ-loop
     loop-holds
     lose-requires
-    add-i
-    loop-less
+    (λ c. search needs)
+    (λ c. search needs)
     loop-again
     same-length
     same-length-2

@@ -1,15 +1,12 @@
+-- `machine::phase::code_tag` meets its promise.
 use native.Mathlib.Omega.{arith}
 use Rattle.machine.proofs.Serving.{active-tag, passive-tag}
 use Rattle.machine.proofs.phase.code_tag.Statement.{statement}
 use Rattle.machine.proofs.phase.code_tag.Tie as tie
-use Rattle.machine.proofs.phase.code_tag.Reads as reads
-use Rattle.machine.proofs.phase.code_tag.Lts as lts
 
--- src/phase.rt:61:9
 returns : tie.Need-returns
 returns c = (active-tag _ (c .if1 .taken), omega arith)
 
--- src/phase.rt:57:1
 returns-2 : tie.Need-returns-2
 returns-2 c = (passive-tag _ (c .if1 .left), omega arith)
 

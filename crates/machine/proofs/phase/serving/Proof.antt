@@ -1,25 +1,17 @@
+-- `machine::phase::serving` meets its promise.
 use Rattle.machine.proofs.Serving.{serves-empty, serves-tag, serves-line}
 use borrow.Author.Needs.{needs}
 use Rattle.machine.proofs.phase.serving.Statement.{statement}
 use Rattle.machine.proofs.phase.serving.Tie as tie
-use Rattle.machine.proofs.phase.serving.Reads as reads
-use Rattle.machine.proofs.phase.serving.Lts as lts
 
--- src/phase.rt:47:9
 returns : tie.Need-returns
 returns c = serves-empty _ _ _ (c .if1 .taken)
 
--- src/phase.rt:50:9
 returns-2 : tie.Need-returns-2
 returns-2 c = serves-tag _ _ _ (c .before .before .pre .0) (c .before .before .pre .1) (c .if2 .taken)
 
--- src/phase.rt:52:5
-cast-result : tie.Need-cast-result
-cast-result c = search needs
-
--- src/phase.rt:42:1
 returns-3 : tie.Need-returns-3
 returns-3 c = serves-line _ _ _ (c .before .if1 .left) (c .if2 .left)
 
 pub serving-spec : {M : Type 1} → statement M
-serving-spec = tie.close (tie.spec returns returns-2 cast-result returns-3)
+serving-spec = tie.close (tie.spec returns returns-2 (λ c. search needs) returns-3)

@@ -1,17 +1,13 @@
+-- `machine::run::steps` meets its promise.
 use Rattle.machine.specs.Steps.{machineOf}
 use Rattle.cache.specs.Lent.{countsIn}
 use Rattle.model.specs.Log.{noCounts}
 use Prim.Native.Nat.{ℕ, _-_}
 use Rattle.machine.proofs.Running.{Going, step-small, going-none, going-more, going-stops, going-all}
 use native.Mathlib.Omega.{arith}
-use mathlib.Core.Path.{_≡_, refl, sym, ap, _∙_}
-use borrow.Author.Needs.{needs}
+use mathlib.Core.Path.{_≡_, refl, _∙_}
 use Rattle.machine.proofs.run.steps.Statement.{statement}
 use Rattle.machine.proofs.run.steps.Tie as tie
-use Rattle.machine.proofs.run.steps.Reads as reads
-use Rattle.machine.proofs.run.steps.Lts as lts
-use Rattle.cache.proofs.slots.add.Reads as add-reads
-use Rattle.machine.proofs.step.step.Reads as step-reads
 
 abbrev Inv-loop : tie.InvT-loop
 Inv-loop t r₀ mem₀ macs₀ cache₀ dir₀ n s₀ k₀ answer₀ i₀ r mem macs cache dir s k answer i = (_≡_ {A = ℕ} answer 0) × Going n i (machineOf r₀ s₀ mem₀ macs₀ cache₀ dir₀) (machineOf r s mem macs cache dir) (countsIn k)
@@ -19,70 +15,136 @@ Inv-loop t r₀ mem₀ macs₀ cache₀ dir₀ n s₀ k₀ answer₀ i₀ r mem 
 abbrev μ-loop : tie.MeasureT-loop
 μ-loop t r₀ mem₀ macs₀ cache₀ dir₀ n s₀ k₀ answer₀ i₀ r mem macs cache dir s k answer i = n - i
 
--- src/run.rt:33:9
 loop-holds : tie.Need-loop-holds Inv-loop μ-loop
 unfolding noCounts
 loop-holds c = (refl, going-none _ _ (c .before .before .before .before .pre .1 .1))
 
--- src/run.rt:37:13
 step-requires : tie.Need-step-requires Inv-loop μ-loop
-step-requires c κs = (c .before .before .before .before .before .before .before .before .before .before .before .pre .0, (omega (arith, c .before .before .before .before .before .before .loop .inv .1 .mem, c .before .before .before .before .before .before .before .before .before .before .before .pre .1 .0 .0), c .before .before .before .before .before .before .loop .inv .1 .fit))
+step-requires c κs =
+    let turn = c .before .before .before .before .before .before .loop in (
+      c .before .before .before .before .before .before .before .before .before .before .before .pre .0,
+      (
+        omega (
+          arith,
+          turn .inv .1 .mem,
+          c .before
+              .before .before .before .before .before .before .before .before .before .before .pre .1 .0 .0,
+        ),
+        turn .inv .1 .fit,
+      ),
+    )
 
--- src/run.rt:40:9
 add-requires : tie.Need-add-requires Inv-loop μ-loop
-add-requires c κs = let a = c .before .before .before .before .before .before .before .before .before .before .before .before .before .before .before .before .loop .inv .1 .small in let b = step-small _ _ _ _ (c .before .before .before .before .before .before .before .before .before .before .before .before .before .before .before .before .loop .inv .1 .fit) (omega (arith, c .before .before .before .before .before .before .before .before .before .before .before .before .before .before .before .before .loop .inv .1 .dir, (c .before .before .before .before .before .before .before .before .before .before .before .before .before .before .before .before .before .before .before .before .before .pre .1 .0 .1))) (c .before .before .before .before .before .before .before .before .before .step .ensures) in let n = c .before .before .before .before .before .before .before .before .before .before .before .before .before .before .before .before .before .before .before .before .before .pre .1 .0 .2 in let w = c .before .before .before .before .before .before .before .before .before .before .before .before .before .before .before .before .loop .inv .1 .within in ((omega (arith, a .filled, n, w), omega (arith, a .written, n, w), omega (arith, a .checked, n, w), omega (arith, a .made, n, w)), (omega (arith, b .filled), omega (arith, b .written), omega (arith, b .checked), omega (arith, b .made)))
+add-requires c κs =
+    let turn = c .before .before .before .before .before .before .before .before .before .before .before .before .before .before .before .before .loop in
+    let a = turn .inv .1 .small in let b = step-small _ _ _ _ (turn .inv .1 .fit) (omega (
+      arith,
+      turn .inv .1 .dir,
+      (c .before .before .before .before
+          .before .before .before .before .before .before .before .before .before .before .before .before .before .before .before .before .before .pre .1 .0
+          .1),
+    )) (c .before .before .before .before .before .before .before .before .before .step .ensures) in let n = c .before .before .before .before
+    .before .before .before .before .before .before .before .before .before .before .before .before .before .before .before .before .before .pre .1 .0
+    .2 in let w = turn .inv .1 .within in (
+      (
+        omega (arith, a .filled, n, w),
+        omega (arith, a .written, n, w),
+        omega (arith, a .checked, n, w),
+        omega
+            (arith, a .made, n, w),
+      ),
+      (omega (arith, b .filled), omega (arith, b .written), omega (arith, b .checked), omega (arith, b .made)),
+    )
 
--- src/run.rt:41:9
 add-i : tie.Need-add-i Inv-loop μ-loop
-add-i c = omega (arith, c .before .before .before .before .before .before .before .before .before .before .before .before .before .before .before .before .before .loop .inv .1 .within, c .before .before .before .before .before .before .before .before .before .before .before .before .before .before .before .before .before .before .before .before .before .before .pre .1 .0 .2)
+add-i c =
+    omega (
+      arith,
+      c .before .before .before .before .before .before .before .before .before .before .before .before .before .before .before .before
+          .before .loop .inv .1 .within,
+      c .before .before .before .before .before .before .before .before .before .before .before .before .before .before
+          .before .before .before .before .before .before .before .before .pre .1 .0 .2,
+    )
 
--- src/run.rt:33:9
 loop-less : tie.Need-loop-less Inv-loop μ-loop
-loop-less c = omega (arith, c .before .before .before .before .before .before .before .before .before .before .before .before .before .before .before .before .before .before .before .loop .inv .1 .within, c .before .before .before .before .before .before .before .before .before .before .before .before .before .before .before .before .before .before .if1 .left)
+loop-less c =
+    omega (
+      arith,
+      c .before .before .before .before .before .before .before .before .before .before .before .before .before .before .before .before
+          .before .before .before .loop .inv .1 .within,
+      c .before .before .before .before .before .before .before .before .before .before .before .before
+          .before .before .before .before .before .before .if1 .left,
+    )
 
--- src/run.rt:33:9
 loop-again : tie.Need-loop-again Inv-loop μ-loop
-loop-again c = (c .before .before .before .before .before .before .before .before .before .before .before .before .before .before .before .before .before .before .before .loop .inv .0, going-more _ _ _ _ _ _ _ _ _ (omega (arith, c .before .before .before .before .before .before .before .before .before .before .before .before .before .before .before .before .before .before .before .loop .inv .1 .within, c .before .before .before .before .before .before .before .before .before .before .before .before .before .before .before .before .before .before .if1 .left)) (c .before .before .before .before .before .before .before .before .before .before .before .before .before .before .before .before .before .before .before .before .before .before .before .before .pre .1 .0 .1) (c .before .before .before .before .before .before .before .before .before .before .before .before .before .before .before .before .before .before .before .loop .inv .1) (c .before .before .before .before .before .before .before .before .before .before .before .before .step .ensures) (c .before .before .add .ensures) (c .if2 .left) (c .before .before .before .before .before .before .before .before .before .before .before .before .step .kept .1 .1 .1 .0) (c .before .before .before .before .before .before .before .before .before .before .before .before .step .kept .1 .1 .1 .1 .0) (c .before .before .before .before .before .before .before .before .before .before .before .before .step .kept .1 .1 .1 .1 .1 .0) (c .before .before .before .before .before .before .before .before .before .before .before .before .step .kept .1 .1 .1 .1 .1 .1 .0))
+loop-again c =
+    let turn = c .before .before .before .before .before .before .before .before .before .before .before .before .before .before .before .before .before .before .before .loop in (
+      turn .inv .0,
+      going-more _ _ _ _ _ _ _ _ _ (omega (
+        arith,
+        turn .inv .1 .within,
+        c .before .before .before .before .before .before .before .before
+            .before .before .before .before .before .before .before .before .before .before .if1 .left,
+      )) (c .before .before .before .before .before .before
+          .before .before .before .before .before .before .before .before .before .before .before .before .before .before .before .before .before .before
+          .pre .1 .0 .1) (turn .inv .1) (c .before .before .before .before .before .before .before .before .before .before .before .before .step .ensures)
+          (c .before .before .add .ensures) (c .if2 .left) (c .before .before .before .before .before .before .before .before .before .before .before
+          .before .step .kept .1 .1 .1 .0) (c .before .before .before .before .before .before .before .before .before .before .before .before .step .kept .1
+          .1 .1 .1 .0) (c .before .before .before .before .before .before .before .before .before .before .before .before .step .kept .1 .1 .1 .1 .1 .0) (c
+          .before .before .before .before .before .before .before .before .before .before .before .before .step .kept .1 .1 .1 .1 .1 .1 .0),
+    )
 
--- src/run.rt:23:1
 same-length : tie.Need-same-length Inv-loop μ-loop
 same-length c = c .before .loop .inv .1 .mem
 
--- src/run.rt:23:1
 same-length-2 : tie.Need-same-length-2 Inv-loop μ-loop
 same-length-2 c = c .before .loop .inv .1 .macs
 
--- src/run.rt:23:1
 same-length-3 : tie.Need-same-length-3 Inv-loop μ-loop
 same-length-3 c = c .before .loop .inv .1 .cache
 
--- src/run.rt:23:1
 same-length-4 : tie.Need-same-length-4 Inv-loop μ-loop
 same-length-4 c = c .before .loop .inv .1 .dir
 
--- src/run.rt:23:1
 returns : tie.Need-returns Inv-loop μ-loop
 returns c = rw (c .before .loop .inv .0) (going-all _ _ _ _ _ (c .if1 .taken) (c .before .loop .inv .1))
 
--- src/run.rt:23:1
 same-length-5 : tie.Need-same-length-5 Inv-loop μ-loop
-same-length-5 c = c .before .before .before .before .before .before .before .before .before .before .before .before .step .kept .1 .1 .1 .0 ∙ c .before .before .before .before .before .before .before .before .before .before .before .before .before .before .before .before .before .before .before .loop .inv .1 .mem
+same-length-5 c =
+    c .before .before .before .before .before .before .before .before .before .before .before .before .step .kept .1 .1 .1 .0 ∙ c .before .before
+    .before .before .before .before .before .before .before .before .before .before .before .before .before .before .before .before .before .loop .inv
+    .1 .mem
 
--- src/run.rt:23:1
 same-length-6 : tie.Need-same-length-6 Inv-loop μ-loop
-same-length-6 c = c .before .before .before .before .before .before .before .before .before .before .before .before .step .kept .1 .1 .1 .1 .0 ∙ c .before .before .before .before .before .before .before .before .before .before .before .before .before .before .before .before .before .before .before .loop .inv .1 .macs
+same-length-6 c =
+    c .before .before .before .before .before .before .before .before .before .before .before .before .step .kept .1 .1 .1 .1 .0 ∙ c .before .before
+    .before .before .before .before .before .before .before .before .before .before .before .before .before .before .before .before .before .loop .inv
+    .1 .macs
 
--- src/run.rt:23:1
 same-length-7 : tie.Need-same-length-7 Inv-loop μ-loop
-same-length-7 c = c .before .before .before .before .before .before .before .before .before .before .before .before .step .kept .1 .1 .1 .1 .1 .0 ∙ c .before .before .before .before .before .before .before .before .before .before .before .before .before .before .before .before .before .before .before .loop .inv .1 .cache
+same-length-7 c =
+    c .before .before .before .before .before .before .before .before .before .before .before .before .step .kept .1 .1 .1 .1 .1 .0 ∙ c .before
+    .before .before .before .before .before .before .before .before .before .before .before .before .before .before .before .before .before .before
+    .loop .inv .1 .cache
 
--- src/run.rt:23:1
 same-length-8 : tie.Need-same-length-8 Inv-loop μ-loop
-same-length-8 c = c .before .before .before .before .before .before .before .before .before .before .before .before .step .kept .1 .1 .1 .1 .1 .1 .0 ∙ c .before .before .before .before .before .before .before .before .before .before .before .before .before .before .before .before .before .before .before .loop .inv .1 .dir
+same-length-8 c =
+    c .before .before .before .before .before .before .before .before .before .before .before .before .step .kept .1 .1 .1 .1 .1 .1 .0 ∙ c .before
+    .before .before .before .before .before .before .before .before .before .before .before .before .before .before .before .before .before .before
+    .loop .inv .1 .dir
 
--- src/run.rt:23:1
 returns-2 : tie.Need-returns-2 Inv-loop μ-loop
-returns-2 c = going-stops _ _ _ _ _ _ _ _ _ (omega (arith, c .before .before .before .before .before .before .before .before .before .before .before .before .before .before .before .before .before .before .before .loop .inv .1 .within, c .before .before .before .before .before .before .before .before .before .before .before .before .before .before .before .before .before .before .if1 .left)) (c .before .before .before .before .before .before .before .before .before .before .before .before .before .before .before .before .before .before .before .before .before .before .before .before .pre .1 .0 .1) (c .before .before .before .before .before .before .before .before .before .before .before .before .before .before .before .before .before .before .before .loop .inv .1) (c .before .before .before .before .before .before .before .before .before .before .before .before .step .ensures) (c .before .before .add .ensures) (c .if2 .taken)
+returns-2 c =
+    let turn = c .before .before .before .before .before .before .before .before .before .before .before .before .before .before .before .before .before .before .before .loop in
+    going-stops _ _ _ _ _ _ _ _ _ (omega (
+      arith,
+      turn .inv .1 .within,
+      c .before .before .before .before .before .before .before .before .before
+          .before .before .before .before .before .before .before .before .before .if1 .left,
+    )) (c .before .before .before .before .before .before .before
+    .before .before .before .before .before .before .before .before .before .before .before .before .before .before .before .before .before .pre .1 .0
+    .1) (turn .inv .1) (c .before .before .before .before .before .before .before .before .before .before .before .before .step .ensures) (c .before
+    .before .add .ensures) (c .if2 .taken)
 
 pub steps-spec : {M : Type 1} → statement M
 steps-spec =

@@ -1,203 +1,54 @@
+-- `machine::words::read_eight` meets its promise.
 use native.Mathlib.Omega.{arith}
 use Rattle.machine.proofs.WordsLaws.{eight}
 use borrow.Author.Needs.{needs}
 use Rattle.machine.proofs.words.read_eight.Statement.{statement}
 use Rattle.machine.proofs.words.read_eight.Tie as tie
-use Rattle.machine.proofs.words.read_eight.Reads as reads
-use Rattle.machine.proofs.words.read_eight.Lts as lts
-use Rattle.machine.proofs.words.wide.Reads as wide-reads
 
--- src/words.rt:28:10
-shared-slice-read-wide : tie.Need-shared-slice-read-wide
-shared-slice-read-wide c = search needs
-
--- src/words.rt:28:5
-wide-requires : tie.Need-wide-requires
-wide-requires c κs = search needs
-
--- src/words.rt:29:18
-add-wide : tie.Need-add-wide
-add-wide c = search needs
-
--- src/words.rt:29:16
-shared-slice-read-wide-2 : tie.Need-shared-slice-read-wide-2
-shared-slice-read-wide-2 c = search needs
-
--- src/words.rt:29:11
-wide-requires-2 : tie.Need-wide-requires-2
-wide-requires-2 c κs = search needs
-
--- src/words.rt:29:11
-mul-result : tie.Need-mul-result
-mul-result c = search needs
-
--- src/words.rt:28:5
-add-result : tie.Need-add-result
-add-result c = search needs
-
--- src/words.rt:30:18
-add-wide-2 : tie.Need-add-wide-2
-add-wide-2 c = search needs
-
--- src/words.rt:30:16
-shared-slice-read-wide-3 : tie.Need-shared-slice-read-wide-3
-shared-slice-read-wide-3 c = search needs
-
--- src/words.rt:30:11
-wide-requires-3 : tie.Need-wide-requires-3
-wide-requires-3 c κs = search needs
-
--- src/words.rt:30:11
-mul-result-2 : tie.Need-mul-result-2
-mul-result-2 c = search needs
-
--- src/words.rt:28:5
-add-result-2 : tie.Need-add-result-2
-add-result-2 c = search needs
-
--- src/words.rt:31:18
-add-wide-3 : tie.Need-add-wide-3
-add-wide-3 c = search needs
-
--- src/words.rt:31:16
-shared-slice-read-wide-4 : tie.Need-shared-slice-read-wide-4
-shared-slice-read-wide-4 c = search needs
-
--- src/words.rt:31:11
-wide-requires-4 : tie.Need-wide-requires-4
-wide-requires-4 c κs = search needs
-
--- src/words.rt:31:11
-mul-result-3 : tie.Need-mul-result-3
-mul-result-3 c = search needs
-
--- src/words.rt:28:5
-add-result-3 : tie.Need-add-result-3
-add-result-3 c = search needs
-
--- src/words.rt:32:18
-add-wide-4 : tie.Need-add-wide-4
-add-wide-4 c = search needs
-
--- src/words.rt:32:16
-shared-slice-read-wide-5 : tie.Need-shared-slice-read-wide-5
-shared-slice-read-wide-5 c = search needs
-
--- src/words.rt:32:11
-wide-requires-5 : tie.Need-wide-requires-5
-wide-requires-5 c κs = search needs
-
--- src/words.rt:32:11
-mul-result-4 : tie.Need-mul-result-4
-mul-result-4 c = search needs
-
--- src/words.rt:28:5
-add-result-4 : tie.Need-add-result-4
-add-result-4 c = search needs
-
--- src/words.rt:33:18
-add-wide-5 : tie.Need-add-wide-5
-add-wide-5 c = search needs
-
--- src/words.rt:33:16
-shared-slice-read-wide-6 : tie.Need-shared-slice-read-wide-6
-shared-slice-read-wide-6 c = search needs
-
--- src/words.rt:33:11
-wide-requires-6 : tie.Need-wide-requires-6
-wide-requires-6 c κs = search needs
-
--- src/words.rt:33:11
-mul-result-5 : tie.Need-mul-result-5
-mul-result-5 c = search needs
-
--- src/words.rt:28:5
-add-result-5 : tie.Need-add-result-5
-add-result-5 c = search needs
-
--- src/words.rt:34:18
-add-wide-6 : tie.Need-add-wide-6
-add-wide-6 c = search needs
-
--- src/words.rt:34:16
-shared-slice-read-wide-7 : tie.Need-shared-slice-read-wide-7
-shared-slice-read-wide-7 c = search needs
-
--- src/words.rt:34:11
-wide-requires-7 : tie.Need-wide-requires-7
-wide-requires-7 c κs = search needs
-
--- src/words.rt:34:11
-mul-result-6 : tie.Need-mul-result-6
-mul-result-6 c = search needs
-
--- src/words.rt:28:5
-add-result-6 : tie.Need-add-result-6
-add-result-6 c = search needs
-
--- src/words.rt:35:18
-add-wide-7 : tie.Need-add-wide-7
-add-wide-7 c = search needs
-
--- src/words.rt:35:16
-shared-slice-read-wide-8 : tie.Need-shared-slice-read-wide-8
-shared-slice-read-wide-8 c = search needs
-
--- src/words.rt:35:11
-wide-requires-8 : tie.Need-wide-requires-8
-wide-requires-8 c κs = search needs
-
--- src/words.rt:35:11
-mul-result-7 : tie.Need-mul-result-7
-mul-result-7 c = search needs
-
--- src/words.rt:28:5
-add-result-7 : tie.Need-add-result-7
-add-result-7 c = search needs
-
--- src/words.rt:24:1
 returns : tie.Need-returns
-returns c = let e = eight (c .before .before .before .before .before .before .before .before .before .before .before .before .before .before .before .before .before .args .at) (c .before .before .before .before .before .before .before .before .before .before .before .before .before .before .before .before .before .args .s .now) (omega arith) in omega (arith, e)
+returns c =
+    let args = c .before .before .before .before .before .before .before .before .before .before .before .before .before .before .before .before .before .args in
+    let e = eight (args .at) (args .s .now) (omega arith) in omega (arith, e)
 
 pub read-eight-spec : {M : Type 1} → statement M
 read-eight-spec =
     tie.close
     (tie.spec
-    shared-slice-read-wide
-    wide-requires
-    add-wide
-    shared-slice-read-wide-2
-    wide-requires-2
-    mul-result
-    add-result
-    add-wide-2
-    shared-slice-read-wide-3
-    wide-requires-3
-    mul-result-2
-    add-result-2
-    add-wide-3
-    shared-slice-read-wide-4
-    wide-requires-4
-    mul-result-3
-    add-result-3
-    add-wide-4
-    shared-slice-read-wide-5
-    wide-requires-5
-    mul-result-4
-    add-result-4
-    add-wide-5
-    shared-slice-read-wide-6
-    wide-requires-6
-    mul-result-5
-    add-result-5
-    add-wide-6
-    shared-slice-read-wide-7
-    wide-requires-7
-    mul-result-6
-    add-result-6
-    add-wide-7
-    shared-slice-read-wide-8
-    wide-requires-8
-    mul-result-7
-    add-result-7
+    (λ c. search needs)
+    (λ c κs. search needs)
+    (λ c. search needs)
+    (λ c. search needs)
+    (λ c κs. search needs)
+    (λ c. search needs)
+    (λ c. search needs)
+    (λ c. search needs)
+    (λ c. search needs)
+    (λ c κs. search needs)
+    (λ c. search needs)
+    (λ c. search needs)
+    (λ c. search needs)
+    (λ c. search needs)
+    (λ c κs. search needs)
+    (λ c. search needs)
+    (λ c. search needs)
+    (λ c. search needs)
+    (λ c. search needs)
+    (λ c κs. search needs)
+    (λ c. search needs)
+    (λ c. search needs)
+    (λ c. search needs)
+    (λ c. search needs)
+    (λ c κs. search needs)
+    (λ c. search needs)
+    (λ c. search needs)
+    (λ c. search needs)
+    (λ c. search needs)
+    (λ c κs. search needs)
+    (λ c. search needs)
+    (λ c. search needs)
+    (λ c. search needs)
+    (λ c. search needs)
+    (λ c κs. search needs)
+    (λ c. search needs)
+    (λ c. search needs)
     returns)

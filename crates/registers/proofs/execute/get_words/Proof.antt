@@ -1,27 +1,20 @@
+-- `registers::execute::get_words` meets its promise.
 use Rattle.registers.proofs.Executing.{unchanged-words}
-use mathlib.Core.Path.{refl, sym, ap, _∙_}
 use Rattle.registers.proofs.execute.get_words.Statement.{statement}
 use Rattle.registers.proofs.execute.get_words.Tie as tie
-use Rattle.registers.proofs.execute.get_words.Reads as reads
-use Rattle.registers.proofs.execute.get_words.Lts as lts
 
--- src/execute.rt:149:9
 returns : tie.Need-returns
 returns c = rw (c .if1 .taken)
 
--- src/execute.rt:154:9
 returns-2 : tie.Need-returns-2
 returns-2 c = rw (c .if2 .taken)
 
--- src/execute.rt:159:9
 returns-3 : tie.Need-returns-3
 returns-3 c = rw (c .if3 .taken)
 
--- src/execute.rt:163:9
 returns-4 : tie.Need-returns-4
 returns-4 c = rw (c .if4 .taken)
 
--- src/execute.rt:142:1
 returns-5 : tie.Need-returns-5
 returns-5 c = unchanged-words _ _ _ _ (c .before .before .before .if1 .left) (c .before .before .if2 .left) (c .before .if3 .left) (c .if4 .left)
 

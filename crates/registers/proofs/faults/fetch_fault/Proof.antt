@@ -1,38 +1,32 @@
-use mathlib.Core.Path.{refl, sym, ap, _∙_}
-use borrow.Author.Tests.{eq-eqb, ne-eqb, eqb-true, le-leb, lt-leb, leb-true, leb-false}
-use Rattle.registers.proofs.Choices.{hit, miss, beyond, less, fourfold, not-taken, past, or-false, or-last, is-none, is-some}
+-- `registers::faults::fetch_fault` meets its promise.
+use mathlib.Core.Path.{refl, sym, _∙_}
+use borrow.Author.Tests.{eq-eqb, ne-eqb, le-leb, lt-leb}
+use Rattle.registers.proofs.Choices.{hit, miss}
 use Rattle.instructions.specs.Record.{active}
 use Rattle.instructions.specs.Faults.{fetchFault}
 use borrow.Author.Needs.{needs}
 use Rattle.registers.proofs.faults.fetch_fault.Statement.{statement}
 use Rattle.registers.proofs.faults.fetch_fault.Tie as tie
-use Rattle.registers.proofs.faults.fetch_fault.Reads as reads
-use Rattle.registers.proofs.faults.fetch_fault.Lts as lts
-use Rattle.registers.proofs.fields.both.Reads as both-reads
 
--- src/faults.rt:19:9
 returns : tie.Need-returns
 unfolding fetchFault active
 returns c = rw (ne-eqb _ 0 (c .if1 .taken))
 
--- src/faults.rt:22:9
 returns-2 : tie.Need-returns-2
 unfolding fetchFault active
 returns-2 c = rw (eq-eqb _ 0 (c .before .before .if1 .left), le-leb _ _ (c .if2 .taken))
 
--- src/faults.rt:24:8
-both-requires : tie.Need-both-requires
-both-requires c κs = search needs
-
--- src/faults.rt:25:9
 returns-3 : tie.Need-returns-3
 unfolding fetchFault active
-returns-3 c = rw (eq-eqb _ 0 (c .before .before .before .before .before .before .if1 .left), lt-leb _ _ (c .before .before .before .before .if2 .left)) (hit _ _ _ (sym (c .before .both .ensures) ∙ c .if3 .taken))
+returns-3 c =
+    rw (eq-eqb _ 0 (c .before .before .before .before .before .before .if1 .left), lt-leb _ _ (c .before .before .before .before .if2 .left)) (hit _ _
+    _ (sym (c .before .both .ensures) ∙ c .if3 .taken))
 
--- src/faults.rt:15:1
 returns-4 : tie.Need-returns-4
 unfolding fetchFault active
-returns-4 c = rw (eq-eqb _ 0 (c .before .before .before .before .before .before .if1 .left), lt-leb _ _ (c .before .before .before .before .if2 .left)) (miss _ _ _ _ (sym (c .before .both .ensures) ∙ c .if3 .left) refl)
+returns-4 c =
+    rw (eq-eqb _ 0 (c .before .before .before .before .before .before .if1 .left), lt-leb _ _ (c .before .before .before .before .if2 .left)) (miss _
+    _ _ _ (sym (c .before .both .ensures) ∙ c .if3 .left) refl)
 
 pub fetch-fault-spec : {M : Type 1} → statement M
-fetch-fault-spec = tie.close (tie.spec returns returns-2 both-requires returns-3 returns-4)
+fetch-fault-spec = tie.close (tie.spec returns returns-2 (λ c κs. search needs) returns-3 returns-4)

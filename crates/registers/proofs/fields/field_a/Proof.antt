@@ -1,12 +1,10 @@
+-- `registers::fields::field_a` meets its promise.
 use native.Mathlib.Omega.{arith}
-use mathlib.Core.Path.{refl, sym, ap, _∙_}
+use mathlib.Core.Path.{refl}
 use Rattle.instructions.specs.Fields.{fieldA}
 use Rattle.registers.proofs.fields.field_a.Statement.{statement}
 use Rattle.registers.proofs.fields.field_a.Tie as tie
-use Rattle.registers.proofs.fields.field_a.Reads as reads
-use Rattle.registers.proofs.fields.field_a.Lts as lts
 
--- src/fields.rt:47:1
 returns : tie.Need-returns
 unfolding fieldA
 returns c = (refl, omega arith)

@@ -1,12 +1,10 @@
+-- `registers::fields::field_c` meets its promise.
 use native.Mathlib.Omega.{arith}
-use mathlib.Core.Path.{refl, sym, ap, _∙_}
+use mathlib.Core.Path.{refl}
 use Rattle.instructions.specs.Fields.{fieldC}
 use Rattle.registers.proofs.fields.field_c.Statement.{statement}
 use Rattle.registers.proofs.fields.field_c.Tie as tie
-use Rattle.registers.proofs.fields.field_c.Reads as reads
-use Rattle.registers.proofs.fields.field_c.Lts as lts
 
--- src/fields.rt:59:1
 returns : tie.Need-returns
 unfolding fieldC
 returns c = (refl, omega arith)

@@ -1,0 +1,3 @@
+-- The laws of `host`, file by file.
+pub mod Refusing
+pub mod Asking

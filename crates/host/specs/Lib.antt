@@ -1,0 +1,2 @@
+-- What `host` means, file by file.
+pub mod Outcome
