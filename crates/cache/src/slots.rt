@@ -16,6 +16,7 @@ ghost use Rattle.cache.specs.Lent.{lent, countsIn, tagNamed, Fit};
 ghost use Rattle.cache.specs.Does.{Does, fillCounts};
 
 // Lines filled, dirty lines written, MACs checked, MACs made for lines.
+#[repr(C)]
 pub struct Counts {
     pub filled: u64,
     pub written: u64,

@@ -1,2 +1,3 @@
 -- What `host` means, file by file.
 pub mod Outcome
+pub mod Row

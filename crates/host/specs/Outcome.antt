@@ -1,15 +1,19 @@
 -- What a call of the host gives: everything that the meaning's call gives on the machine that was lent.
 use Prim.Native.Nat.{ℕ}
 use mathlib.Core.Path.{_≡_}
+use mathlib.Core.Bool.{false}
 use mathlib.Core.List.{List}
+use Rattle.lists.specs.Bytes.{zeros}
 use Rattle.model.specs.Log.{Counts}
 use Rattle.model.specs.Cached.{Cached}
 use Rattle.instructions.specs.Board.{documentBoard}
 use Rattle.instructions.specs.Calls.{Call, Machine, Result, cachedSetup, called, counts}
 use Rattle.ciphers.specs.Cipher.{aesCipher}
-use Rattle.cache.specs.Lent.{lent}
+use Rattle.cache.specs.Lent.{lent, countsIn}
 use Rattle.registers.specs.declared.record.Processor.{Processor}
 use Rattle.registers.specs.Map.{processorOf}
+use Rattle.host.specs.declared.answer.Answer.{Answer}
+use Rattle.host.specs.declared.answer.Report.{Report}
 
 -- The machine of a record and four lent buffers; its DRK goes with the memory.
 abbrev pub machineOf : Processor → List ℕ → List ℕ → List ℕ → List ℕ → Machine Cached
@@ -27,3 +31,45 @@ pub record Gives (call : Call) (m : Machine Cached) (answer steps : ℕ) (k : Co
   pub counted : k ≡ counts (resultOf call m)
   pub later : buffer ≡ resultOf call m .buffer
   pub left : m′ ≡ resultOf call m .machine
+
+-- A call on a record and four lent buffers leaves another record, a report, the later bytes of the call's own buffer and of the four: what the meaning's call gives.
+unfoldable pub Leaves : Call → Processor → List ℕ → List ℕ → List ℕ → List ℕ → Processor → Report → List ℕ → List ℕ → List ℕ → List ℕ → List ℕ → Type 0
+Leaves call p mem macs cache dir p′ x buffer mem′ macs′ cache′ dir′ =
+    Gives call (machineOf p mem macs cache dir) (x .answer) (x .steps) (countsIn (x .counts)) buffer (machineOf p′ mem′ macs′ cache′ dir′)
+
+-- The answer of a refusal: the record as it was lent, the number, no steps, no counts.
+abbrev pub refusedWith : Processor → ℕ → Answer
+refusedWith p n =
+    record { processor = p; report = record { answer = n; steps = 0; counts = record { filled = 0; written = 0; checked = 0; made = 0 } } }
+
+-- The record with everything zero but DRK and SRH.
+abbrev pub clearedOf : Processor → Processor
+clearedOf p =
+    let q = p .special in
+    record {
+      r = zeros 32;
+      special =
+          record {
+            pc = 0;
+            epc = 0;
+            cause = 0;
+            drkhi = q .drkhi;
+            drklo = q .drklo;
+            srh0 = q .srh0;
+            srh1 = q .srh1;
+            srh2 = q .srh2;
+            srh3 = q .srh3;
+            word0 = 0;
+            word1 = 0;
+            word2 = 0;
+            word3 = 0;
+            hash = zeros 16;
+            address = 0;
+            pid = 0;
+            savedpid = 0;
+            cid = 0;
+            savedcid = 0;
+            mode = 0;
+            lock = false;
+          };
+    }

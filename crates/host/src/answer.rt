@@ -6,18 +6,24 @@ ghost use mathlib.Core.Bool.{not, _||_};
 ghost use mathlib.Core.List.{[], _∷_, _++_};
 ghost use lib.Dec.{eqb, ltb};
 ghost use lib.ListN.{getD};
-ghost use Rattle.model.specs.Log.{noCounts};
 ghost use Rattle.instructions.specs.Rules.{firstOf};
 ghost use Rattle.instructions.specs.Board.{documentBoard};
 ghost use Rattle.instructions.specs.Refusals.{orElse, memoryFlaws, cacheFlaws};
-ghost use Rattle.cache.specs.Lent.{countsIn};
+ghost use Rattle.host.specs.Outcome.{refusedWith};
 
-// The record after the call, the four counts, run's steps, and the answer.
+// The answer, run's steps and the four counts.
+#[repr(C)]
+pub struct Report {
+    pub answer: u64,
+    pub steps: u64,
+    pub counts: Counts,
+}
+
+// The record after the call, and its report.
+#[repr(C)]
 pub struct Answer {
     pub processor: Processor,
-    pub counts: Counts,
-    pub steps: u64,
-    pub answer: u32,
+    pub report: Report,
 }
 
 // R0 of a record.
@@ -30,25 +36,34 @@ pub(crate) fn zeroth(p: Processor) -> u64
 
 // A refusal: nothing done, nothing counted.
 pub(crate) fn refused(p: Processor, n: u32) -> Answer
-    ensures { λ r. ⌜ (r .processor ≡ p) × (r .answer ≡ n) × (r .steps ≡ 0) × (countsIn (r .counts) ≡ noCounts) ⌝ }
+    ensures { λ r. ⌜ r ≡ refusedWith p n ⌝ }
 {
     Answer {
         processor: p,
-        counts: cache::slots::none(),
-        steps: 0,
-        answer: n,
+        report: Report {
+            answer: n as u64,
+            steps: 0,
+            counts: Counts {
+                filled: 0,
+                written: 0,
+                checked: 0,
+                made: 0,
+            },
+        },
     }
 }
 
 // A call done, other than run.
 pub(crate) fn done(p: Processor, k: Counts) -> Answer
-    ensures { λ r. ⌜ (r .processor ≡ p) × (r .answer ≡ 0) × (r .steps ≡ 0) × (r .counts ≡ k) ⌝ }
+    ensures { λ r. ⌜ (r .processor ≡ p) × (r .report .answer ≡ 0) × (r .report .steps ≡ 0) × (r .report .counts ≡ k) ⌝ }
 {
     Answer {
         processor: p,
-        counts: k,
-        steps: 0,
-        answer: 0,
+        report: Report {
+            answer: 0,
+            steps: 0,
+            counts: k,
+        },
     }
 }
 

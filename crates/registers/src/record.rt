@@ -1,6 +1,7 @@
 // The processor's record: R0 to R31, and all other registers.
 
 // pc, EPC, cause, PID, CID, CEM_Mode, DRK_Lock, DRK, SRH, CEM_Buffer, Interrupt_Hash, Interrupt_Address, saved PID and saved CID.
+#[repr(C)]
 pub struct Special {
     pub pc: u64,
     pub epc: u64,
@@ -26,6 +27,7 @@ pub struct Special {
 }
 
 // The whole record, with R0 to R31.
+#[repr(C)]
 pub struct Processor {
     pub r: [u64; 32],
     pub special: Special,

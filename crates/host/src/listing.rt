@@ -1,0 +1,70 @@
+// The listing, by value: its refusal, and the record of each slot.
+use crate::answer;
+use registers::record::Processor;
+ghost use mathlib.Core.Path.{_≡_};
+ghost use Rattle.model.specs.Tags.{tagNumber};
+ghost use Rattle.directory.specs.Numbers.{entryOf, tagOf};
+ghost use Rattle.directory.specs.Direct.{direct};
+ghost use Rattle.instructions.specs.Board.{documentBoard};
+ghost use Rattle.instructions.specs.Listing.{listingRefusal};
+ghost use Rattle.host.specs.Outcome.{machineOf};
+ghost use Rattle.host.specs.Row.{rowOf};
+
+// A record of the row: used (1) or empty (0), line, tag, dirty (1) or clean (0).
+#[repr(C)]
+pub struct LineRecord {
+    pub used: u32,
+    pub line: u32,
+    pub tag: u32,
+    pub dirty: u32,
+}
+
+// The refusal of a listing into a row of so many records, and 0 where there is none.
+pub fn refusal(p: Processor, mem: &[u8], macs: &[u8], cache: &[u8], dir: &[u32], rows: usize) -> u32
+    ensures { λ r. ⌜ r ≡ listingRefusal documentBoard (machineOf p (now (mem .entry)) (now (macs .entry)) (now (cache .entry)) (now (dir .entry))) rows ⌝ }
+{
+    let q = p.special;
+    let own = entry::call::row(rows, dir.len());
+    answer::refusal(
+        answer::zeroth(p),
+        q.mode,
+        mem.len(),
+        macs.len(),
+        cache.len(),
+        dir,
+        own,
+    )
+}
+
+// The tag's number in a directory number; there is no tag 3.
+fn tag_of(d: u32) -> u32
+    ensures { λ r. ⌜ r ≡ tagNumber (tagOf d) ⌝ }
+{
+    let tag = d / 2 % 4;
+    if tag == 3 {
+        return 0;
+    }
+    tag
+}
+
+// What a directory number says.
+fn row_of(d: u32) -> LineRecord
+    ensures { λ r. ⌜ r ≡ rowOf (entryOf d) ⌝ }
+{
+    LineRecord {
+        used: d % 2,
+        line: d / 16 % 1024,
+        tag: tag_of(d),
+        dirty: d / 8 % 2,
+    }
+}
+
+// The record of slot i; all zero where there is no such slot.
+pub fn row_at(dir: &[u32], i: usize) -> LineRecord
+    ensures { λ r. ⌜ r ≡ rowOf (direct .look (now (dir .entry)) i) ⌝ }
+{
+    if i < dir.len() {
+        return row_of(dir[i]);
+    }
+    row_of(0)
+}
