@@ -1,2 +1,3 @@
 -- The proof of `code_claims`.
 pub mod Proved
+pub mod BothSheets

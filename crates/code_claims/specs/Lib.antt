@@ -1,2 +1,3 @@
 -- What `code_claims` says.
 pub mod Claim
+pub mod Sheets

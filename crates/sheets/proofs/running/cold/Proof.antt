@@ -1,0 +1,20 @@
+-- `sheets::running::cold` meets its promise.
+use Rattle.sheets.proofs.Starting.{cold-gives}
+use borrow.Author.Needs.{needs}
+use Rattle.sheets.proofs.running.cold.Statement.{statement}
+use Rattle.sheets.proofs.running.cold.Tie as tie
+
+returns : tie.Need-returns
+returns c = let head = c .before .before .before .before .before .before .before .before in let a = head .before .before .before .before .before .before .before .before .before .before .before .before .before .before .before .before .before .before .before .before .before .before .args in cold-gives _ _ _ _ _ _ _ _ _ _ _ _ _ _ _ _ _ _ (head .before .before .before .before .before .before .before .before .before .before .before .before .before .power-cut .ensures) (head .run .ensures)
+
+pub cold-spec : {M : Type 1} → statement M
+cold-spec =
+    tie.close
+    (tie.spec
+    (λ c κs. search needs)
+    (λ c κs. search needs)
+    (λ c. search needs)
+    (λ c. search needs)
+    (λ c. search needs)
+    (λ c. search needs)
+    returns)
