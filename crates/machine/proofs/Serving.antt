@@ -8,7 +8,7 @@ use lib.ListN.{length, getD}
 use lib.Dec.{eqb, leb, ltb}
 use borrow.Author.Tests.{eq-eqb, ne-eqb, eqb-true, leb-true}
 use Rattle.lists.specs.If.{if}
-use Rattle.lists.proofs.Cases.{by-test, both-hold}
+use Rattle.lists.proofs.Cases.{by-eq, by-test, both-hold}
 use Rattle.model.specs.Tags.{Tag, noTag, secureInstruction, secureData, tagNumber, sameTag}
 use Rattle.model.specs.Cached.{Cached, serves}
 use Rattle.model.proofs.LineLaws.{sameTag-true}
@@ -56,21 +56,29 @@ other-tags a b ha hb h =
     (λ e. e)
 
 module _ (d t n : ℕ) where
-  pub serves-empty : d % 2 ≡ 0 → false ≡ serves (entryOf d) (tagNamed t) n
+  serves-empty : d % 2 ≡ 0 → false ≡ serves (entryOf d) (tagNamed t) n
   unfolding serves entryOf usedOf
   serves-empty h =
       let e : d % 2 ≡ 1 → ⊥ = λ k. omega arith in
       rw (ne-eqb (d % 2) 1 e)
 
-  pub serves-tag : t ≤ 2 → d / 2 % 4 ≤ 2 → (d / 2 % 4 ≡ t → ⊥) → false ≡ serves (entryOf d) (tagNamed t) n
+  serves-tag : t ≤ 2 → d / 2 % 4 ≤ 2 → (d / 2 % 4 ≡ t → ⊥) → false ≡ serves (entryOf d) (tagNamed t) n
   unfolding serves entryOf tagOf tagNamed
   serves-tag ht hd h = rw (other-tags (d / 2 % 4) t hd ht h, and-false (eqb (lineOf d) n)) (sym (and-false (usedOf d)))
 
-  pub serves-line : (d % 2 ≡ 0 → ⊥) → d / 2 % 4 ≡ t → eqb (d / 16 % 1024) n ≡ serves (entryOf d) (tagNamed t) n
+  serves-line : (d % 2 ≡ 0 → ⊥) → d / 2 % 4 ≡ t → eqb (d / 16 % 1024) n ≡ serves (entryOf d) (tagNamed t) n
   unfolding serves entryOf usedOf tagOf tagNamed lineOf
   serves-line h e =
       let u : d % 2 ≡ 1 = omega arith in
       rw (← e, eq-eqb (d % 2) 1 u, same-self (tagNamed (d / 2 % 4))) (sym (and-true (eqb (d / 16 % 1024) n)))
+
+  -- as the code asks: the used bit and the tag at once, and then the line
+  pub serves-other : t ≤ 2 → d / 2 % 4 ≤ 2 → (d % 8 ≡ 1 + 2 * t → ⊥) → false ≡ serves (entryOf d) (tagNamed t) n
+  serves-other ht hd h =
+      by-eq (d % 2) 0 serves-empty (λ (used : d % 2 ≡ 0 → ⊥). serves-tag ht hd (λ (e : d / 2 % 4 ≡ t). h (omega (arith, used, e))))
+
+  pub serves-same : d % 8 ≡ 1 + 2 * t → t ≤ 2 → eqb (d / 16 % 1024) n ≡ serves (entryOf d) (tagNamed t) n
+  serves-same e ht = serves-line (λ (z : d % 2 ≡ 0). omega (arith, z, e)) (omega (arith, e, ht))
 
 -- the tag of a fetch
 pub active-tag : (m : ℕ) → m ≡ 1 → tagNamed 1 ≡ if (eqb m 1) secureInstruction noTag

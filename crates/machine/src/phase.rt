@@ -35,10 +35,7 @@ fn serving(d: u32, tag: u32, n: usize) -> bool
     requires { ⌜ (tag ≤ 2) × (d / 2 % 4 ≤ 2) ⌝ }
     ensures { λ r. ⌜ r ≡ serves (entryOf d) (tagNamed tag) n ⌝ }
 {
-    if d % 2 == 0 {
-        return false;
-    }
-    if d / 2 % 4 != tag {
+    if d % 8 != 1 + 2 * tag {
         return false;
     }
     (d / 16 % 1024) as usize == n

@@ -77,3 +77,20 @@ no-word a b c d (suc zero) h₀ h₁ h₂ h₃ = absurd (h₁ refl)
 no-word a b c d (suc (suc zero)) h₀ h₁ h₂ h₃ = absurd (h₂ refl)
 no-word a b c d (suc (suc (suc zero))) h₀ h₁ h₂ h₃ = absurd (h₃ refl)
 no-word a b c d (suc (suc (suc (suc i)))) h₀ h₁ h₂ h₃ = past [] i (omega arith)
+
+-- three rules in the middle of a list: one of them applies, or none
+pub middle-hit : (a b c : Bool) (i j k n rest : ℕ) → n ≡ if a i (if b j (if c k 0)) → (n ≡ 0 → ⊥) → n ≡ if a i (if b j (if c k rest))
+middle-hit true b c i j k n rest e some = e
+middle-hit false true c i j k n rest e some = e
+middle-hit false false true i j k n rest e some = e
+middle-hit false false false i j k n rest e some = absurd (some e)
+
+pub middle-miss : (a b c : Bool) (i j k n x rest : ℕ) → 0 < i → 0 < j → 0 < k → n ≡ if a i (if b j (if c k 0)) → n ≡ 0 → x ≡ rest → x ≡ if a i (if b j (if c k rest))
+middle-miss true b c i j k n x rest p q r e none same = absurd (omega (arith, p, e, none))
+middle-miss false true c i j k n x rest p q r e none same = absurd (omega (arith, q, e, none))
+middle-miss false false true i j k n x rest p q r e none same = absurd (omega (arith, r, e, none))
+middle-miss false false false i j k n x rest p q r e none same = same
+
+-- a number that is none of a list's
+pub apart : (n k : ℕ) (rest : Bool) → (n ≡ k → ⊥) → rest ≡ false → (eqb n k || rest) ≡ false
+apart n k rest h e = rw (ne-eqb n k h) e

@@ -3,3 +3,5 @@ pub mod Choices
 pub mod Deciding
 pub mod Suspending
 pub mod Executing
+pub mod Values
+pub mod Opcodes

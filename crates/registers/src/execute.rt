@@ -23,19 +23,10 @@ pub fn has_value(w: u64) -> bool
     ensures { λ r. ⌜ r ≡ o.hasValue w ⌝ }
 {
     let op = fields::opcode(w);
-    let t41 = fields::either(op == 41, false);
-    let t38 = fields::either(op == 38, t41);
-    let t14 = fields::either(op == 14, t38);
-    let t12 = fields::either(op == 12, t14);
-    let t10 = fields::either(op == 10, t12);
-    let t7 = fields::either(op == 7, t10);
-    let t6 = fields::either(op == 6, t7);
-    let t5 = fields::either(op == 5, t6);
-    let t4 = fields::either(op == 4, t5);
-    let t3 = fields::either(op == 3, t4);
-    let t2 = fields::either(op == 2, t3);
-    let t1 = fields::either(op == 1, t2);
-    t1
+    match op {
+        1..=7 | 10 | 12 | 14 | 38 | 41 => true,
+        _ => false,
+    }
 }
 
 // The value that the opcode writes to Ra.

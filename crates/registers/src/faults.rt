@@ -2,9 +2,11 @@
 use crate::fields;
 use crate::record::Special;
 ghost use mathlib.Core.Path.{_≡_};
-ghost use mathlib.Core.Bool.{not, _||_};
+ghost use mathlib.Core.Bool.{not, _&&_, _||_};
+ghost use mathlib.Core.List.{[], _∷_};
 ghost use Prim.Native.Nat.{_≤_, _%_, _<_};
 ghost use lib.Dec.{eqb};
+ghost use Rattle.instructions.specs.Rules.{firstOf};
 ghost use Rattle.instructions.specs.Board.{documentBoard, opcodeTable};
 ghost use Rattle.instructions.specs.Fields as f;
 ghost use Rattle.instructions.specs.Operations as o;
@@ -71,6 +73,26 @@ fn sel_listed(w: u64) -> bool
     true
 }
 
+// What decoding finds of the opcodes from 32 on: 1, 3, 7, and otherwise 0.
+fn thread_fault(q: Special, op: u64, w: u64) -> u64
+    requires { ⌜ op ≡ f.opcode w ⌝ }
+    ensures { λ n. ⌜ n ≡ firstOf ((eqb (f.opcode w) 32 && q .lock, 1) ∷ (eqb (f.opcode w) 39 && not (eqb (q .mode) 0), 3) ∷ (eqb (f.opcode w) 43 || not (selListed w), 7) ∷ []) ⌝ }
+{
+    if op < 32 {
+        return 0;
+    }
+    if fields::both(op == 32, q.lock) {
+        return 1;
+    }
+    if fields::both(op == 39, q.mode != 0) {
+        return 3;
+    }
+    if fields::either(op == 43, !sel_listed(w)) {
+        return 7;
+    }
+    0
+}
+
 // What decoding finds: 11, 2, 1, 3, 7, 9, 10, and otherwise 0.
 pub fn decode_fault(t: &[u8; 64], r: &[u64; 32], q: Special, m: u64, w: u64, a: u64) -> u64
     requires { ⌜ now t ≡ opcodeTable ⌝ }
@@ -87,14 +109,9 @@ pub fn decode_fault(t: &[u8; 64], r: &[u64; 32], q: Special, m: u64, w: u64, a: 
     if fields::both(k == 2, q.mode != 1) {
         return 2;
     }
-    if fields::both(op == 32, q.lock) {
-        return 1;
-    }
-    if fields::both(op == 39, q.mode != 0) {
-        return 3;
-    }
-    if fields::either(op == 43, !sel_listed(w)) {
-        return 7;
+    let f = thread_fault(q, op, w);
+    if f != 0 {
+        return f;
     }
     let h = has_address(w);
     if fields::both(h, a % 8 != 0) {
