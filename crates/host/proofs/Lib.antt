@@ -1,3 +1,4 @@
 -- The laws of `host`, file by file.
 pub mod Refusing
-pub mod Asking
+pub mod Accepting
+pub mod Rows

@@ -10,6 +10,7 @@ use Rattle.instructions.specs.Board.{documentBoard}
 use Rattle.instructions.specs.Calls.{Call, Machine, Result, cachedSetup, called, counts}
 use Rattle.ciphers.specs.Cipher.{aesCipher}
 use Rattle.cache.specs.Lent.{lent, countsIn}
+use Rattle.cache.specs.declared.slots.Counts as slots
 use Rattle.registers.specs.declared.record.Processor.{Processor}
 use Rattle.registers.specs.Map.{processorOf}
 use Rattle.host.specs.declared.answer.Answer.{Answer}
@@ -24,23 +25,27 @@ machineOf p mem macs cache dir =
 unfoldable pub resultOf : Call → Machine Cached → Result Cached
 resultOf call m = called documentBoard aesCipher (cachedSetup documentBoard aesCipher) call m
 
--- The answer, run's steps, the counts, the later bytes of the call's buffer and the machine after it are those of the call.
-pub record Gives (call : Call) (m : Machine Cached) (answer steps : ℕ) (k : Counts) (buffer : List ℕ) (m′ : Machine Cached) : Type 0 where
-  pub answered : answer ≡ resultOf call m .answer
-  pub stepped : steps ≡ resultOf call m .steps
-  pub counted : k ≡ counts (resultOf call m)
-  pub later : buffer ≡ resultOf call m .buffer
-  pub left : m′ ≡ resultOf call m .machine
+-- The answer, run's steps, the counts, the later bytes of the call's buffer and the machine after it are those of a result.
+pub record Gives (x : Result Cached) (answer steps : ℕ) (k : Counts) (buffer : List ℕ) (m : Machine Cached) : Type 0 where
+  pub answered : answer ≡ x .answer
+  pub stepped : steps ≡ x .steps
+  pub counted : k ≡ counts x
+  pub later : buffer ≡ x .buffer
+  pub left : m ≡ x .machine
 
 -- A call on a record and four lent buffers leaves another record, a report, the later bytes of the call's own buffer and of the four: what the meaning's call gives.
 unfoldable pub Leaves : Call → Processor → List ℕ → List ℕ → List ℕ → List ℕ → Processor → Report → List ℕ → List ℕ → List ℕ → List ℕ → List ℕ → Type 0
 Leaves call p mem macs cache dir p′ x buffer mem′ macs′ cache′ dir′ =
-    Gives call (machineOf p mem macs cache dir) (x .answer) (x .steps) (countsIn (x .counts)) buffer (machineOf p′ mem′ macs′ cache′ dir′)
+    Gives (resultOf call (machineOf p mem macs cache dir)) (x .answer) (x .steps) (countsIn (x .counts)) buffer (machineOf p′ mem′ macs′ cache′ dir′)
 
 -- The answer of a refusal: the record as it was lent, the number, no steps, no counts.
 abbrev pub refusedWith : Processor → ℕ → Answer
 refusedWith p n =
     record { processor = p; report = record { answer = n; steps = 0; counts = record { filled = 0; written = 0; checked = 0; made = 0 } } }
+
+-- The answer of a call done, other than run: the record after it, 0, no steps, the counts.
+abbrev pub doneWith : Processor → slots.Counts → Answer
+doneWith p k = record { processor = p; report = record { answer = 0; steps = 0; counts = k } }
 
 -- The record with everything zero but DRK and SRH.
 abbrev pub clearedOf : Processor → Processor

@@ -9,7 +9,7 @@ ghost use lib.ListN.{getD};
 ghost use Rattle.instructions.specs.Rules.{firstOf};
 ghost use Rattle.instructions.specs.Board.{documentBoard};
 ghost use Rattle.instructions.specs.Refusals.{orElse, memoryFlaws, cacheFlaws};
-ghost use Rattle.host.specs.Outcome.{refusedWith};
+ghost use Rattle.host.specs.Outcome.{refusedWith, doneWith};
 
 // The answer, run's steps and the four counts.
 #[repr(C)]
@@ -55,7 +55,7 @@ pub(crate) fn refused(p: Processor, n: u32) -> Answer
 
 // A call done, other than run.
 pub(crate) fn done(p: Processor, k: Counts) -> Answer
-    ensures { λ r. ⌜ (r .processor ≡ p) × (r .report .answer ≡ 0) × (r .report .steps ≡ 0) × (r .report .counts ≡ k) ⌝ }
+    ensures { λ r. ⌜ r ≡ doneWith p k ⌝ }
 {
     Answer {
         processor: p,

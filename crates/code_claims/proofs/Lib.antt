@@ -1,0 +1,2 @@
+-- The proof of `code_claims`.
+pub mod Proved

@@ -1,0 +1,2 @@
+-- What `code_claims` says.
+pub mod Claim
