@@ -164,10 +164,12 @@ static void print_row(const struct work *w)
     printf("| %s | %.1f | %.1f | %.2f |\n", w->what, best_house / w->units, best_model / w->units, best_model / best_house);
 }
 
-int main(void)
+/* machine [word]: all rows, or those whose name has the word. */
+int main(int argc, char **argv)
 {
     printf("| ns | this house | second model | model / house |\n|---|---|---|---|\n");
     for (size_t i = 0; i < sizeof works / sizeof works[0]; i++)
-        print_row(&works[i]);
+        if (argc < 2 || strstr(works[i].what, argv[1]) != NULL)
+            print_row(&works[i]);
     return 0;
 }
