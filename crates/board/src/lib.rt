@@ -1,0 +1,5 @@
+// The outer face: each call of the host with the processor's record lent by reference, under a plain name that C can link.
+pub mod dropping;
+pub mod restarts;
+pub mod running;
+pub mod transfers;
