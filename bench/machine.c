@@ -1,4 +1,4 @@
-/* Measures runs of the machine by value beside the second model, in turn, on boards with the same contents, and prints a table in Markdown. */
+/* Measures runs of the machine beside the second model, in turn, on boards with the same contents, and prints a table in Markdown. */
 #include <stdio.h>
 #include <stdlib.h>
 #include <string.h>
@@ -6,7 +6,7 @@
 
 #include "../tests/second/lines.h"
 #include "../tests/second/model.h"
-#include "hq_machine_values.h"
+#include "hq_board.h"
 
 enum { MEMORY = 65536, SLOTS = 64, CODE = 128, DATA = 1024, PROGRAM = 36, ROUNDS = 3000 };
 
@@ -81,7 +81,7 @@ static void fill_board(struct board *b, const struct work *w)
 
 static struct hq_processor house_at_start(const struct work *w)
 {
-    struct hq_processor p = {.special = {.pc = CODE, .drk_high = drk[0], .drk_low = drk[1], .mode = (uint8_t)w->mode}};
+    struct hq_processor p = {.special = {.pc = CODE, .drkhi = drk[0], .drklo = drk[1], .mode = (uint8_t)w->mode}};
     p.r[10] = DATA;
     return p;
 }
@@ -93,22 +93,18 @@ static struct board_record model_at_start(const struct work *w)
     return r;
 }
 
-/* The calls of a round by this house; the record goes from answer to call. */
+/* The calls of a round by this house. */
 static void house_round(struct board *b, const struct work *w)
 {
-    struct hq_answer a = {.processor = b->house};
+    struct hq_report x = {0};
     for (unsigned i = 0; i < w->calls; i++) {
         if (w->emptied) {
             memset(b->directory, 0, sizeof b->directory);
-            a.processor = house_at_start(w);
+            b->house = house_at_start(w);
         }
-        a = hq_value_run(a.processor, b->memory, MEMORY, b->macs, MEMORY / 4, b->cache, sizeof b->cache, b->directory, SLOTS, w->n);
+        x = hq_run(&b->house, b->memory, MEMORY, b->macs, MEMORY / 4, b->cache, sizeof b->cache, b->directory, SLOTS, w->n);
     }
-    b->house = a.processor;
-    b->out = (struct outcome){
-        a.report.answer, a.report.steps,
-        {a.report.counts.filled, a.report.counts.written, a.report.counts.checked, a.report.counts.made},
-    };
+    b->out = (struct outcome){x.answer, x.steps, {x.counts.filled, x.counts.written, x.counts.checked, x.counts.made}};
 }
 
 /* The calls of a round by the second model. */

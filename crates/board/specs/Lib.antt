@@ -1,0 +1,2 @@
+-- What the board's own promises mean.
+pub mod Listed
