@@ -8,7 +8,7 @@ use Rattle.field.specs.Field.{_⊕_}
 use Rattle.field.specs.Mixing.{word}
 use Rattle.field.proofs.Xor.{⊕-div, ⊕-mod}
 use Rattle.aes.specs.State.{byteOf}
-use Rattle.aes.specs.Words.{Word, turned, fourWords}
+use Rattle.aes.specs.Words.{Word, turned, fourWords, fourSet}
 
 pub byteOf-lt : (w r : ℕ) → byteOf w r < 256
 unfolding byteOf
@@ -98,6 +98,13 @@ unfolding byteOf
 block-is a b c d i =
     byteOf a 0 ∷ byteOf a 1 ∷ byteOf a 2 ∷ byteOf-last a i ∷ byteOf b 0 ∷ byteOf b 1 ∷ byteOf b 2 ∷ byteOf-last b i
     ∷ byteOf c 0 ∷ byteOf c 1 ∷ byteOf c 2 ∷ byteOf-last c i ∷ byteOf d 0 ∷ byteOf d 1 ∷ byteOf d 2 ∷ byteOf-last d i ∷ []
+
+-- the four bytes of a word, as the code lays them down
+pub four-laid : (l : List ℕ) (k x : ℕ)
+    → fourSet l k (x / 16777216 % 256) (x / 65536 % 256) (x / 256 % 256) (x % 256)
+    ≡ fourSet l k (byteOf x 0) (byteOf x 1) (byteOf x 2) (byteOf x 3)
+unfolding byteOf
+four-laid l k x i = fourSet l k (byteOf x 0) (byteOf x 1) (byteOf x 2) (byteOf-last x i)
 
 -- the sixteen bytes of four words, from the bytes of each
 pub four-bytes : {w a b c d w' a' b' c' d' v e f g h v' e' f' g' h' : ℕ}

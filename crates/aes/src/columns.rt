@@ -4,8 +4,9 @@ ghost use Prim.Native.Nat.{_+_, _≤_};
 ghost use lib.ListN.{length};
 ghost use Rattle.lists.specs.Parts.{putAt};
 ghost use Rattle.field.specs.Field.{_⊕_};
-ghost use Rattle.aes.specs.State.{at, state};
-ghost use Rattle.aes.specs.Words.{Word, Loaded, turned, blockOf};
+ghost use Rattle.aes.specs.State.{at, state, byteOf};
+ghost use Rattle.aes.specs.Inverse.{changed};
+ghost use Rattle.aes.specs.Words.{Word, Loaded, turned, blockOf, fourSet};
 
 // The four columns of a state, the first row in the highest byte of each word.
 pub struct Columns {
@@ -115,25 +116,36 @@ pub(crate) fn columns_at(b: &[u8], k: usize) -> Columns
     }
 }
 
+// Columns of which the second and the fourth change places.
+pub(crate) fn flip(x: Columns) -> Columns
+    ensures { λ r. ⌜ r ≡ changed x ⌝ }
+{
+    Columns {
+        a: x.a,
+        b: x.d,
+        c: x.c,
+        d: x.b,
+    }
+}
+
+// Lays the four bytes of a word down from place k on.
+pub(crate) fn put_word(x: u32, b: &mut [u8], k: usize)
+    requires { ⌜ k + 4 ≤ length (now b) ⌝ }
+    ensures { λ _. ⌜ now (b .exit) ≡ fourSet (now (b .entry)) k (byteOf x 0) (byteOf x 1) (byteOf x 2) (byteOf x 3) ⌝ }
+{
+    b[k] = (x / 16777216 % 256) as u8;
+    b[k + 1] = (x / 65536 % 256) as u8;
+    b[k + 2] = (x / 256 % 256) as u8;
+    b[k + 3] = (x % 256) as u8;
+}
+
 // Lays the sixteen bytes of a block's columns down from place k on.
 pub(crate) fn store(x: Columns, b: &mut [u8], k: usize)
     requires { ⌜ k + 16 ≤ length (now b) ⌝ }
     ensures { λ _. ⌜ now (b .exit) ≡ putAt k 16 (blockOf x) (now (b .entry)) ⌝ }
 {
-    b[k] = (x.a / 16777216 % 256) as u8;
-    b[k + 1] = (x.a / 65536 % 256) as u8;
-    b[k + 2] = (x.a / 256 % 256) as u8;
-    b[k + 3] = (x.a % 256) as u8;
-    b[k + 4] = (x.b / 16777216 % 256) as u8;
-    b[k + 5] = (x.b / 65536 % 256) as u8;
-    b[k + 6] = (x.b / 256 % 256) as u8;
-    b[k + 7] = (x.b % 256) as u8;
-    b[k + 8] = (x.c / 16777216 % 256) as u8;
-    b[k + 9] = (x.c / 65536 % 256) as u8;
-    b[k + 10] = (x.c / 256 % 256) as u8;
-    b[k + 11] = (x.c % 256) as u8;
-    b[k + 12] = (x.d / 16777216 % 256) as u8;
-    b[k + 13] = (x.d / 65536 % 256) as u8;
-    b[k + 14] = (x.d / 256 % 256) as u8;
-    b[k + 15] = (x.d % 256) as u8;
+    put_word(x.a, b, k);
+    put_word(x.b, b, k + 4);
+    put_word(x.c, b, k + 8);
+    put_word(x.d, b, k + 12);
 }
