@@ -51,44 +51,24 @@ pub(crate) fn turn_three(x: u32) -> u32
     x % 16777216 * 256 + x / 16777216
 }
 
+// The word of the four bytes that stand from place k on.
+fn word_at(b: &[u8], k: usize) -> u32
+    requires { ⌜ k + 4 ≤ length (now b) ⌝ }
+    ensures { λ r. ⌜ Word (at (now (b .entry)) k) (at (now (b .entry)) (k + 1)) (at (now (b .entry)) (k + 2)) (at (now (b .entry)) (k + 3)) r ⌝ }
+{
+    word_of(b[k], b[k + 1], b[k + 2], b[k + 3])
+}
+
 // The columns of a block of sixteen bytes.
 pub(crate) fn columns_of(b: &[u8; 16]) -> Columns
     ensures { λ r. ⌜ Loaded (now (b .entry)) r ⌝ }
 {
     Columns {
-        a: word_of(b[0], b[1], b[2], b[3]),
-        b: word_of(b[4], b[5], b[6], b[7]),
-        c: word_of(b[8], b[9], b[10], b[11]),
-        d: word_of(b[12], b[13], b[14], b[15]),
+        a: word_at(b, 0),
+        b: word_at(b, 4),
+        c: word_at(b, 8),
+        d: word_at(b, 12),
     }
-}
-
-// The sixteen bytes of a block's columns.
-pub(crate) fn bytes_of(x: Columns) -> [u8; 16]
-    ensures { λ r. ⌜ r ≡ blockOf x ⌝ }
-{
-    let a = x.a;
-    let b = x.b;
-    let c = x.c;
-    let d = x.d;
-    [
-        (a / 16777216 % 256) as u8,
-        (a / 65536 % 256) as u8,
-        (a / 256 % 256) as u8,
-        (a % 256) as u8,
-        (b / 16777216 % 256) as u8,
-        (b / 65536 % 256) as u8,
-        (b / 256 % 256) as u8,
-        (b % 256) as u8,
-        (c / 16777216 % 256) as u8,
-        (c / 65536 % 256) as u8,
-        (c / 256 % 256) as u8,
-        (c % 256) as u8,
-        (d / 16777216 % 256) as u8,
-        (d / 65536 % 256) as u8,
-        (d / 256 % 256) as u8,
-        (d % 256) as u8,
-    ]
 }
 
 // The sum of two states.
@@ -109,10 +89,10 @@ pub(crate) fn columns_at(b: &[u8], k: usize) -> Columns
     ensures { λ r. ⌜ blockOf r ≡ state (λ i. at (now (b .entry)) (k + i)) ⌝ }
 {
     Columns {
-        a: word_of(b[k], b[k + 1], b[k + 2], b[k + 3]),
-        b: word_of(b[k + 4], b[k + 5], b[k + 6], b[k + 7]),
-        c: word_of(b[k + 8], b[k + 9], b[k + 10], b[k + 11]),
-        d: word_of(b[k + 12], b[k + 13], b[k + 14], b[k + 15]),
+        a: word_at(b, k),
+        b: word_at(b, k + 4),
+        c: word_at(b, k + 8),
+        d: word_at(b, k + 12),
     }
 }
 
@@ -148,4 +128,13 @@ pub(crate) fn store(x: Columns, b: &mut [u8], k: usize)
     put_word(x.b, b, k + 4);
     put_word(x.c, b, k + 8);
     put_word(x.d, b, k + 12);
+}
+
+// The sixteen bytes of a block's columns.
+pub(crate) fn bytes_of(x: Columns) -> [u8; 16]
+    ensures { λ r. ⌜ r ≡ blockOf x ⌝ }
+{
+    let mut r = [0u8; 16];
+    store(x, &mut r, 0);
+    r
 }

@@ -6,6 +6,7 @@ use mathlib.Core.List.{List}
 use lib.ListN.{length}
 use native.Mathlib.Omega.{arith}
 use Rattle.aes.specs.Words.{blockOf}
+use Rattle.lists.specs.Parts.{partAt}
 use Rattle.aes.specs.State.{plus}
 use Rattle.aes.specs.Chain.{unchained}
 use Rattle.aes.specs.Inverse.{eqInvCipher, eqDecrypt}
@@ -41,9 +42,13 @@ unfolding plus
 loop-again c =
     let args = c .before .before .before .before .before .before .before .before .before .before .before .before .before .before .args in
     let turn = c .before .before .before .before .before .before .before .before .before .loop in
-    let next = c .before .before .before .before .before .before .columns-at in (
+    let next = c .before .before .before .before .before .before .columns-at in
+    let inv = eqInvCipher (args .v .now) in
+    let block = plus (inv (partAt (turn .i * 16) 16 (turn .b))) (blockOf (turn .x)) in (
       search needs,
-      after-more (turn .i) _ _ (args .b .now) (turn .b) _ _ _ _ (omega arith) refl refl (c .before .before .unlink .ensures) (unchained-one (eqInvCipher (args .v .now)) _ (turn .i) (blockOf (turn .x)) (turn .b) (blockOf (next .result)) _ (omega arith) (next .ensures ∙ bytes-part (turn .b) (turn .i * 16) (omega (arith, turn .inv .1 .size))) refl) (turn .inv .1),
+      after-more (turn .i) _ _ (args .b .now) (turn .b) block _ _ _ (omega arith) refl refl (c .before .before .unlink .ensures)
+          (unchained-one inv _ (turn .i) (blockOf (turn .x)) (turn .b) (blockOf (next .result)) block (omega arith)
+          (next .ensures ∙ bytes-part (turn .b) (turn .i * 16) (omega (arith, turn .inv .1 .size))) refl) (turn .inv .1),
     )
 
 same-length : tie.Need-same-length Inv-loop μ-loop
