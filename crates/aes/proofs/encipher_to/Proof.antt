@@ -11,12 +11,20 @@ use Rattle.aes.proofs.encipher_to.Tie as tie
 
 returns : tie.Need-returns
 returns c =
-    let args = c .before .before .before .before .before .before .before .before .before .before .before .before .before .args in
-    let x = c .before .before .before .before .before .before .before .before .through .result in
-    let size : length (args .out .now) ≡ 16 = search needs in
-    stored (args .out .now) _ _ _ _ 0 (x .a) (x .b) (x .c) (x .d) (omega arith) (c .before .before .before .before .before .before .put-word .ensures) (c .before .before .before .before .put-word2 .ensures) (c .before .before .put-word3 .ensures) (c .put-word4 .ensures)
-    ∙ put-all 16 (blockOf x) (args .out .now) size
-    ∙ enciphered (c .before .before .before .before .before .before .before .before .before .before .before .before .mixed .result) (args .w .now) (args .block .now) (blockOf (c .before .before .before .before .before .before .before .before .before .columns-of .result)) (blockOf x) (c .before .before .before .before .before .before .before .before .before .before .before .before .mixed .ensures) (c .before .before .before .before .before .before .before .before .before .columns-of .ensures .block) (c .before .before .before .before .before .before .before .before .through .ensures)
+    let size : length (c .before .before .before .before .before .before .before .before .before .before .before .before .before .args .out .now) ≡ 16 = search needs in
+    let third = c .before .before in
+    let second = third .before .before in
+    let first = second .before .before in
+    let run = first .before .before in
+    let load = run .before in
+    let table = load .before .before .before in
+    let args = table .before .args in
+    let x = run .through .result in
+    stored (args .out .now) _ _ _ _ 0 (x .a) (x .b) (x .c) (x .d) (omega (arith, size))
+    (first .put-word .ensures) (second .put-word2 .ensures) (third .put-word3 .ensures) (c .put-word4 .ensures)
+    ∙ put-all 16 (blockOf x) (args .out .now) (size)
+    ∙ enciphered (table .mixed .result) (args .w .now) (args .block .now) (blockOf (load .columns-of .result)) (blockOf x)
+    (table .mixed .ensures) (load .columns-of .ensures .block) (run .through .ensures)
 
 pub encipher-to-spec : {M : Type 1} → statement M
 encipher-to-spec =

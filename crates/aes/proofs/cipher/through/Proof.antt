@@ -19,18 +19,21 @@ loop-holds c = (search needs, rounds-none (c .before .args .t .now) (c .before .
 
 loop-again : tie.Need-loop-again Inv-loop μ-loop
 loop-again c =
-    let args = c .before .before .before .before .args in
-    let turn = c .before .before .loop in (
+    let turn = c .before .before .loop in
+    let start = c .before .before .before in
+    let args = start .before .args in (
       search needs,
-      rounds-more (args .t .now) (args .w .now) (blockOf (c .before .before .before .add-round-key .result)) (turn .n) (blockOf (turn .x)) (blockOf (c .full .result)) (c .full .ensures) (turn .inv .1),
+      rounds-more (args .t .now) (args .w .now) (blockOf (start .add-round-key .result)) (turn .n) (blockOf (turn .x)) (blockOf (c .full .result))
+          (c .full .ensures) (turn .inv .1),
     )
 
 returns : tie.Need-returns Inv-loop μ-loop
 returns c =
-    let args = c .before .before .before .before .args in
     let turn = c .before .before .loop in
-    through-done (args .t .now) (args .u .now) (args .w .now) (blockOf (args .block)) (blockOf (c .before .before .before .add-round-key .result)) (turn .n) (blockOf (turn .x))
-    (blockOf (c .last .result)) (omega arith) (c .before .before .before .add-round-key .ensures) (turn .inv .1) (c .last .ensures)
+    let start = c .before .before .before in
+    let args = start .before .args in
+    through-done (args .t .now) (args .u .now) (args .w .now) (blockOf (args .block)) (blockOf (start .add-round-key .result)) (turn .n)
+    (blockOf (turn .x)) (blockOf (c .last .result)) (omega arith) (start .add-round-key .ensures) (turn .inv .1) (c .last .ensures)
 
 pub through-spec : {M : Type 1} → statement M
 through-spec =

@@ -12,7 +12,13 @@ returns c =
     let b = c .before .before .before .before .word-at2 .ensures in
     let d = c .before .before .word-at3 .ensures in
     let e = c .word-at4 .ensures in
-    record { block = loaded-at (c .before .before .before .before .before .before .before .before .args .b .now) 0 _ _ _ _ a b d e; first = a .is; second = b .is; third = d .is; fourth = e .is }
+    record {
+      block = loaded-at (c .before .before .before .before .before .before .before .before .args .b .now) 0 _ _ _ _ a b d e;
+      first = a .is;
+      second = b .is;
+      third = d .is;
+      fourth = e .is;
+    }
 
 pub columns-of-spec : {M : Type 1} → statement M
 columns-of-spec =

@@ -6,8 +6,14 @@ use Rattle.aes.proofs.columns.store.Tie as tie
 
 returns : tie.Need-returns
 returns c =
-    let args = c .before .before .before .before .before .before .before .before .before .before .before .before .before .before .before .before .before .args in
-    stored (args .b .now) _ _ _ _ (args .k) (args .x .a) (args .x .b) (args .x .c) (args .x .d) (c .before .before .before .before .before .before .before .before .before .before .before .before .before .before .before .before .before .pre) (c .before .before .before .before .before .before .before .before .before .before .before .before .before .before .put-word .ensures) (c .before .before .before .before .before .before .before .before .before .before .put-word2 .ensures) (c .before .before .before .before .before .before .put-word3 .ensures) (c .before .before .put-word4 .ensures)
+    let fourth = c .before .before in
+    let third = fourth .before .before .before .before in
+    let second = third .before .before .before .before in
+    let first = second .before .before .before .before in
+    let start = first .before .before .before in
+    let args = start .args in
+    stored (args .b .now) _ _ _ _ (args .k) (args .x .a) (args .x .b) (args .x .c) (args .x .d) (start .pre)
+    (first .put-word .ensures) (second .put-word2 .ensures) (third .put-word3 .ensures) (fourth .put-word4 .ensures)
 
 pub store-spec : {M : Type 1} → statement M
 store-spec =

@@ -8,18 +8,21 @@ use Rattle.aes.proofs.schedule.inverse_key.Tie as tie
 returns : tie.Need-returns
 returns c =
     let args = c .before .before .before .args in
-    rw (c .flip .ensures) (key-kept (args .w .now) (args .r) (c .before .before .round-key .result) (λ p q. omega arith) (c .before .before .round-key .ensures))
+    let key = c .before .before .round-key in
+    rw (c .flip .ensures) (key-kept (args .w .now) (args .r) (key .result) (λ p q. omega arith) (key .ensures))
 
 returns-2 : tie.Need-returns-2
 returns-2 c =
     let args = c .before .before .before .before .args in
-    rw (c .flip2 .ensures) (key-kept (args .w .now) (args .r) (c .before .before .before .round-key .result) (λ p q. omega arith) (c .before .before .before .round-key .ensures))
+    let key = c .before .before .before .round-key in
+    rw (c .flip2 .ensures) (key-kept (args .w .now) (args .r) (key .result) (λ p q. omega arith) (key .ensures))
 
 returns-3 : tie.Need-returns-3
 returns-3 c =
     let args = c .before .before .before .before .before .before .before .args in
     let key = c .before .before .before .before .before .before .round-key in
-    key-unmixed (args .w .now) (args .r) (key .result) _ (omega arith) (omega arith) (key .ensures) (c .before .before .before .unmixed .ensures) (c .before .before .unmixed2 .ensures) (c .before .unmixed3 .ensures) (c .unmixed4 .ensures)
+    key-unmixed (args .w .now) (args .r) (key .result) _ (omega arith) (omega arith) (key .ensures) (c .before .before .before .unmixed .ensures)
+    (c .before .before .unmixed2 .ensures) (c .before .unmixed3 .ensures) (c .unmixed4 .ensures)
 
 pub inverse-key-spec : {M : Type 1} → statement M
 inverse-key-spec =

@@ -20,10 +20,12 @@ loop-holds c = (search needs, refl, keys-none (c .before .before .args .w .now) 
 
 loop-again : tie.Need-loop-again Inv-loop μ-loop
 loop-again c =
-    let turn = c .before .before .before .before .before .before .loop in (
+    let turn = c .before .before .before .before .before .before .loop in
+    let key = c .before .before .inverse-key in (
       search needs,
       rw (c .put .ensures) (simp length-set (turn .inv .1)),
-      keys-more (c .before .before .before .before .before .before .before .before .before .args .w .now) (turn .v) _ (turn .r) (c .before .before .inverse-key .result) (turn .inv .1) (omega arith) (turn .inv .2) (c .before .before .inverse-key .ensures) (c .put .ensures),
+      keys-more (c .before .before .before .before .before .before .before .before .before .args .w .now) (turn .v) _ (turn .r) (key .result) (turn .inv .1) (omega arith) (turn .inv .2)
+          (key .ensures) (c .put .ensures),
     )
 
 returns : tie.Need-returns Inv-loop μ-loop

@@ -9,7 +9,9 @@ returns : tie.Need-returns
 returns c =
     let args = c .before .before .args in
     let pre = c .before .before .pre in
-    unmixed-key (args .s .now) (args .t .now) (args .k) (c .before .substituted .result) (c .shared .result) (pre .0) (shares-back (args .t .now) (pre .1)) (c .before .substituted .ensures) (c .shared .ensures)
+    let x = c .before .substituted in
+    unmixed-key (args .s .now) (args .t .now) (args .k) (x .result) (c .shared .result) (pre .0) (shares-back (args .t .now) (pre .1))
+    (x .ensures) (c .shared .ensures)
 
 pub unmixed-spec : {M : Type 1} → statement M
 unmixed-spec = tie.close (tie.spec (λ c κs. search needs) (λ c κs. search needs) returns)
