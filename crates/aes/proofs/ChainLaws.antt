@@ -1,22 +1,23 @@
 -- Blocks in a buffer, and the chain over them, block by block.
 use mathlib.Core.Path.{_≡_, refl, sym, ap, ap₂, fun-ext, _∙_}
-use mathlib.Core.List.{List, [], _∷_, _++_, append-assoc}
+use mathlib.Core.List.{List, [], _∷_, _++_, append-assoc, append-nil}
 use Prim.Native.Nat.{ℕ, zero, suc, _+_, _-_, _*_, _/_, _%_, _≤_, _<_}
-use native.Mathlib.Nat.{add-suc, sub-zero}
-use native.Mathlib.Numerals.{add-one}
+use native.Mathlib.Nat.{add-zero, add-suc, suc-add, sub-zero}
+use native.Mathlib.Numerals.{add-one, add-two, add-three}
 use native.Mathlib.Omega.{arith}
 use lib.ListN.{length, take, drop, getD, set, length-append, take-append-drop}
-use lib.Seq.{sets, sets-eq, getD-take, getD-drop, take-at, drop-at, drop-drop, length-take-le}
+use lib.Seq.{sets, sets-eq, getD-take, getD-drop, take-at, drop-at, drop-length, drop-drop, length-take-le}
 use Rattle.field.specs.Field.{_⊕_}
 use Rattle.lists.specs.Parts.{partAt, putAt}
 use Rattle.lists.proofs.PartLaws.{length-part, length-put}
-use Rattle.aes.specs.State.{at, state, plus}
+use Rattle.aes.specs.declared.columns.Columns.{Columns}
+use Rattle.aes.specs.State.{at, state, byteOf, plus}
 use Rattle.aes.specs.Cipher.{cipher, invCipher}
-use Rattle.aes.specs.Inverse.{InverseKeys, eqInvCipher, eqDecrypt}
+use Rattle.aes.specs.Inverse.{InverseKeys, flipped, eqInvCipher, eqDecrypt}
 use Rattle.aes.specs.Schedule.{keyExpansion}
 use Rattle.aes.proofs.InverseLaws.{eqInvCipher-invCipher}
-use Rattle.aes.specs.Words.{fourWords}
-use Rattle.aes.proofs.WordLaws.{block-is}
+use Rattle.aes.specs.Words.{fourWords, blockOf, fourSet}
+use Rattle.aes.proofs.WordLaws.{bytes-⊕, bytes-of, four-bytes}
 use Rattle.aes.specs.Chain.{chained, unchained, absorbed, lastOfChain, cbcDecrypt}
 use Rattle.aes.proofs.StateLaws.{tabulate, tabulated}
 
@@ -44,20 +45,29 @@ sets-put l k vs h =
     sets-eq vs l k h ∙ append-assoc (take k l) vs (drop (k + length vs) l)
     ∙ ap (λ (r : List ℕ). take k l ++ (vs ++ r)) (sym (drop-drop (length vs) k l))
 
--- stores at k + j, k + (j + 1), .., as code writes them
-abbrev setsFrom : List ℕ → ℕ → ℕ → List ℕ → List ℕ
-setsFrom l k j [] = l
-setsFrom l k j (v ∷ vs) = setsFrom (set l (k + j) v) k (suc j) vs
+-- four words laid down one after the other are laid down in a row
+four-sets : (l : List ℕ) (k a b c d : ℕ) → fourSet l k a b c d ≡ sets l k (a ∷ b ∷ c ∷ d ∷ [])
+four-sets l k a b c d = rw (add-one, add-two, add-three)
 
-setsFrom-sets : (vs l : List ℕ) (k j : ℕ) → setsFrom l k j vs ≡ sets l (k + j) vs
-setsFrom-sets [] l k j = refl
-setsFrom-sets (v ∷ vs) l k j = setsFrom-sets vs (set l (k + j) v) k (suc j) ∙ ap (λ (n : ℕ). sets (set l (k + j) v) n vs) (add-suc k j)
+sets-more : (xs l : List ℕ) (k : ℕ) (ys : List ℕ) → sets (sets l k xs) (k + length xs) ys ≡ sets l k (xs ++ ys)
+sets-more [] l k ys = ap (λ (n : ℕ). sets l n ys) (add-zero k)
+sets-more (x ∷ xs) l k ys = ap (λ (n : ℕ). sets (sets (set l k x) (suc k) xs) n ys) (add-suc k (length xs) ∙ sym (suc-add k (length xs))) ∙ sets-more xs (set l k x) (suc k) ys
 
--- sixteen bytes stored one by one from place k on replace a part
-stores-put : (l : List ℕ) (k v : ℕ) (vs : List ℕ) → length vs ≡ 15 → k + 16 ≤ length l → setsFrom (set l k v) k 1 vs ≡ putAt k 16 (v ∷ vs) l
-stores-put l k v vs e h =
-    setsFrom-sets vs (set l k v) k 1 ∙ ap (λ (n : ℕ). sets (set l k v) n vs) (add-one k)
-    ∙ sets-put l k (v ∷ vs) (omega arith) ∙ ap (λ (n : ℕ). putAt k n (v ∷ vs) l) (omega arith)
+-- the four bytes of a word
+abbrev wordBytes : ℕ → List ℕ
+wordBytes x = byteOf x 0 ∷ byteOf x 1 ∷ byteOf x 2 ∷ byteOf x 3 ∷ []
+
+-- one word more behind those that were laid down
+word-more : (xs l r z : List ℕ) (k x : ℕ) → r ≡ sets l k xs
+    → z ≡ fourSet r (k + length xs) (byteOf x 0) (byteOf x 1) (byteOf x 2) (byteOf x 3) → z ≡ sets l k (xs ++ wordBytes x)
+word-more xs l r z k x p q =
+    q ∙ four-sets r (k + length xs) (byteOf x 0) (byteOf x 1) (byteOf x 2) (byteOf x 3)
+    ∙ ap (λ (m : List ℕ). sets m (k + length xs) (wordBytes x)) p ∙ sets-more xs l k (wordBytes x)
+
+-- a list that is replaced whole
+pub put-all : (n : ℕ) (x l : List ℕ) → length l ≡ n → putAt 0 n x l ≡ x
+unfolding putAt
+put-all n x l e = ap (λ (r : List ℕ). x ++ r) (ap (λ (k : ℕ). drop k l) (sym e) ∙ drop-length l) ∙ append-nil x
 
 -- what stands before and behind a part that was replaced
 pub take-put : (a k : ℕ) (x l : List ℕ) → length x ≡ k → a ≤ length l → take (a + k) (putAt a k x l) ≡ take a l ++ x
@@ -160,18 +170,18 @@ unfolding absorbed plus
 absorbed-from w zero iv l h = absurd (omega arith)
 absorbed-from w (suc n) iv l h = refl
 
--- the code's sixteen stores replace a part
-pub stored : (l : List ℕ) (k a b c d : ℕ) → k + 16 ≤ length l
-    → setsFrom (set l k (a / 16777216 % 256)) k 1
-    (a / 65536 % 256 ∷ a / 256 % 256 ∷ a % 256 ∷ b / 16777216 % 256 ∷ b / 65536 % 256 ∷ b / 256 % 256 ∷ b % 256
-    ∷ c / 16777216 % 256 ∷ c / 65536 % 256 ∷ c / 256 % 256 ∷ c % 256 ∷ d / 16777216 % 256 ∷ d / 65536 % 256 ∷ d / 256 % 256 ∷ d % 256 ∷ [])
-    ≡ putAt k 16 (fourWords a b c d) l
-stored l k a b c d h =
-    stores-put l k (a / 16777216 % 256)
-    (a / 65536 % 256 ∷ a / 256 % 256 ∷ a % 256 ∷ b / 16777216 % 256 ∷ b / 65536 % 256 ∷ b / 256 % 256 ∷ b % 256
-    ∷ c / 16777216 % 256 ∷ c / 65536 % 256 ∷ c / 256 % 256 ∷ c % 256 ∷ d / 16777216 % 256 ∷ d / 65536 % 256 ∷ d / 256 % 256 ∷ d % 256 ∷ [])
-    refl h
-    ∙ ap (λ (x : List ℕ). putAt k 16 x l) (block-is a b c d)
+-- the code's four words, laid down one after the other, replace a part
+pub stored : (l p q r z : List ℕ) (k a b c d : ℕ) → k + 16 ≤ length l
+    → p ≡ fourSet l k (byteOf a 0) (byteOf a 1) (byteOf a 2) (byteOf a 3)
+    → q ≡ fourSet p (k + 4) (byteOf b 0) (byteOf b 1) (byteOf b 2) (byteOf b 3)
+    → r ≡ fourSet q (k + 8) (byteOf c 0) (byteOf c 1) (byteOf c 2) (byteOf c 3)
+    → z ≡ fourSet r (k + 12) (byteOf d 0) (byteOf d 1) (byteOf d 2) (byteOf d 3)
+    → z ≡ putAt k 16 (fourWords a b c d) l
+stored l p q r z k a b c d h e f g i =
+    word-more (wordBytes a ++ wordBytes b ++ wordBytes c) l r z k d
+    (word-more (wordBytes a ++ wordBytes b) l q r k c
+    (word-more (wordBytes a) l p q k b (e ∙ four-sets l k (byteOf a 0) (byteOf a 1) (byteOf a 2) (byteOf a 3)) f) g) i
+    ∙ sets-put l k (fourWords a b c d) h
 
 -- the code's way to the next block of a chain
 pub linked : (w l : List ℕ) (k : ℕ) (before x y r : List ℕ) → k + 16 ≤ length l → x ≡ state (λ i. at l (k + i))
@@ -179,11 +189,16 @@ pub linked : (w l : List ℕ) (k : ℕ) (before x y r : List ℕ) → k + 16 ≤
 unfolding plus
 linked w l k before x y r h load add run = run ∙ ap (cipher w) (add ∙ ap (plus before) (load ∙ bytes-part l k h))
 
--- the code's way back from a block of a chain
-pub unlinked : (v l : List ℕ) (k : ℕ) (before x y r : List ℕ) → k + 16 ≤ length l → x ≡ state (λ i. at l (k + i))
-    → y ≡ eqInvCipher v x → r ≡ state (λ i. at y i ⊕ at before i) → r ≡ plus (eqInvCipher v (partAt k 16 l)) before
-unfolding plus
-unlinked v l k before x y r h load run add = add ∙ ap (λ (z : List ℕ). plus z before) (run ∙ ap (eqInvCipher v) (load ∙ bytes-part l k h))
+-- the code's way back from a block of a chain: its words, the second and the fourth changed about, plus those of the block before
+pub unlinked : (v l x : List ℕ) (k : ℕ) (z before : Columns) → k + 16 ≤ length l → x ≡ state (λ i. at l (k + i))
+    → flipped (blockOf z) ≡ eqInvCipher v x
+    → fourWords (z .a ⊕ before .a) (z .d ⊕ before .b) (z .c ⊕ before .c) (z .b ⊕ before .d)
+    ≡ plus (eqInvCipher v (partAt k 16 l)) (blockOf before)
+unfolding plus flipped
+unlinked v l x k z before h load run =
+    four-bytes (bytes-⊕ (bytes-of refl) (bytes-of refl)) (bytes-⊕ (bytes-of refl) (bytes-of refl)) (bytes-⊕ (bytes-of refl) (bytes-of refl))
+    (bytes-⊕ (bytes-of refl) (bytes-of refl))
+    ∙ ap (λ (s : List ℕ). plus s (blockOf before)) (run ∙ ap (eqInvCipher v) (load ∙ bytes-part l k h))
 
 -- the start of a chain's last block, and a list with no whole block
 pub absorbed-start : (w : List ℕ) (n : ℕ) (before l : List ℕ) → absorbed w n before l ≡ absorbed w (n - 0) before (drop (0 * 16) l)
@@ -194,7 +209,7 @@ unfolding lastOfChain absorbed
 no-block w before l e = rw e
 
 -- CBC decryption by the equivalent inverse cipher is CBC decryption
-pub eqDecrypt-cbcDecrypt : (key w v iv l : List ℕ) → w ≡ keyExpansion key → InverseKeys 44 w v
+pub eqDecrypt-cbcDecrypt : (key w v iv l : List ℕ) → w ≡ keyExpansion key → InverseKeys 11 w v
     → eqDecrypt v iv l ≡ cbcDecrypt (keyExpansion key) iv l
 unfolding eqDecrypt cbcDecrypt
 eqDecrypt-cbcDecrypt key w v iv l schedule keys =

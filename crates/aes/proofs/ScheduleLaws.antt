@@ -15,12 +15,12 @@ use Rattle.field.specs.Table.{Table}
 use Rattle.aes.specs.declared.columns.Columns.{Columns}
 use Rattle.aes.specs.State.{at, byteOf}
 use Rattle.aes.specs.Schedule.{subWord, rotWord, rcon, ifFourth, wordsFrom, keyWord, keyExpansion}
-use Rattle.aes.specs.Words.{turned, substitutedWord, NextKey, Loaded, fourSet}
+use Rattle.aes.specs.Words.{turned, pickedWord, substitutedWord, NextKey, Loaded, fourSet}
 use Rattle.aes.proofs.WordLaws.{byteOf-lt}
 
 -- a word turned and substituted by the code is SubWord of RotWord
 pub sub-word : (t : List ℕ) (w : ℕ) → Table 256 subByte t → substitutedWord t w w w w ≡ subWord w
-unfolding substitutedWord subWord
+unfolding pickedWord subWord
 sub-word t w h i =
     word (h .entry (byteOf w 0) (byteOf-lt w 0) i) (h .entry (byteOf w 1) (byteOf-lt w 1) i) (h .entry (byteOf w 2) (byteOf-lt w 2) i)
     (h .entry (byteOf w 3) (byteOf-lt w 3) i)

@@ -2,13 +2,13 @@
 use mathlib.Core.Path.{_≡_, refl, sym, ap, ap₂, _∙_}
 use mathlib.Core.List.{List, [], _∷_}
 use Prim.Native.Nat.{ℕ, _+_, _-_, _*_, _/_, _%_, _^_, _<_}
-use native.Mathlib.Nat.{div-div-eq-div-mul}
+use native.Mathlib.Nat.{add-zero, add-assoc, div-div-eq-div-mul}
 use native.Mathlib.Omega.{arith}
 use Rattle.field.specs.Field.{_⊕_}
 use Rattle.field.specs.Mixing.{word}
 use Rattle.field.proofs.Xor.{⊕-div, ⊕-mod}
-use Rattle.aes.specs.State.{byteOf}
-use Rattle.aes.specs.Words.{Word, turned, fourWords}
+use Rattle.aes.specs.State.{at, state, byteOf}
+use Rattle.aes.specs.Words.{Word, turned, fourWords, fourSet}
 
 pub byteOf-lt : (w r : ℕ) → byteOf w r < 256
 unfolding byteOf
@@ -89,15 +89,12 @@ bytes-of e =
       byte3 = ap (λ (x : ℕ). byteOf x 3) e;
     }
 
--- the sixteen bytes of four words, as the code takes them
-pub block-is : (a b c d : ℕ)
-    → a / 16777216 % 256 ∷ a / 65536 % 256 ∷ a / 256 % 256 ∷ a % 256 ∷ b / 16777216 % 256 ∷ b / 65536 % 256 ∷ b / 256 % 256 ∷ b % 256
-    ∷ c / 16777216 % 256 ∷ c / 65536 % 256 ∷ c / 256 % 256 ∷ c % 256 ∷ d / 16777216 % 256 ∷ d / 65536 % 256 ∷ d / 256 % 256 ∷ d % 256 ∷ []
-    ≡ fourWords a b c d
+-- the four bytes of a word, as the code lays them down
+pub four-laid : (l : List ℕ) (k x : ℕ)
+    → fourSet l k (x / 16777216 % 256) (x / 65536 % 256) (x / 256 % 256) (x % 256)
+    ≡ fourSet l k (byteOf x 0) (byteOf x 1) (byteOf x 2) (byteOf x 3)
 unfolding byteOf
-block-is a b c d i =
-    byteOf a 0 ∷ byteOf a 1 ∷ byteOf a 2 ∷ byteOf-last a i ∷ byteOf b 0 ∷ byteOf b 1 ∷ byteOf b 2 ∷ byteOf-last b i
-    ∷ byteOf c 0 ∷ byteOf c 1 ∷ byteOf c 2 ∷ byteOf-last c i ∷ byteOf d 0 ∷ byteOf d 1 ∷ byteOf d 2 ∷ byteOf-last d i ∷ []
+four-laid l k x i = fourSet l k (byteOf x 0) (byteOf x 1) (byteOf x 2) (byteOf-last x i)
 
 -- the sixteen bytes of four words, from the bytes of each
 pub four-bytes : {w a b c d w' a' b' c' d' v e f g h v' e' f' g' h' : ℕ}
@@ -106,3 +103,24 @@ pub four-bytes : {w a b c d w' a' b' c' d' v e f g h v' e' f' g' h' : ℕ}
 four-bytes p q r s i =
     p .byte0 i ∷ p .byte1 i ∷ p .byte2 i ∷ p .byte3 i ∷ q .byte0 i ∷ q .byte1 i ∷ q .byte2 i ∷ q .byte3 i
     ∷ r .byte0 i ∷ r .byte1 i ∷ r .byte2 i ∷ r .byte3 i ∷ s .byte0 i ∷ s .byte1 i ∷ s .byte2 i ∷ s .byte3 i ∷ []
+
+-- the bytes of a word that stands at place k + j, by places counted from k
+placed : (l : List ℕ) (k j w : ℕ) → Word (at l (k + j)) (at l (k + j + 1)) (at l (k + j + 2)) (at l (k + j + 3)) w
+    → Bytes w (at l (k + j)) (at l (k + (j + 1))) (at l (k + (j + 2))) (at l (k + (j + 3)))
+placed l k j w h =
+    record {
+      byte0 = h .byte0;
+      byte1 = h .byte1 ∙ ap (at l) (add-assoc k j 1);
+      byte2 = h .byte2 ∙ ap (at l) (add-assoc k j 2);
+      byte3 = h .byte3 ∙ ap (at l) (add-assoc k j 3);
+    }
+
+-- the block of the four words that stand from place k on
+pub loaded-at : (l : List ℕ) (k a b c d : ℕ) → Word (at l k) (at l (k + 1)) (at l (k + 2)) (at l (k + 3)) a
+    → Word (at l (k + 4)) (at l (k + 4 + 1)) (at l (k + 4 + 2)) (at l (k + 4 + 3)) b
+    → Word (at l (k + 8)) (at l (k + 8 + 1)) (at l (k + 8 + 2)) (at l (k + 8 + 3)) c
+    → Word (at l (k + 12)) (at l (k + 12 + 1)) (at l (k + 12 + 2)) (at l (k + 12 + 3)) d
+    → fourWords a b c d ≡ state (λ i. at l (k + i))
+loaded-at l k a b c d e f g h =
+    four-bytes (record { byte0 = e .byte0 ∙ ap (at l) (sym (add-zero k)); byte1 = e .byte1; byte2 = e .byte2; byte3 = e .byte3 })
+    (placed l k 4 b f) (placed l k 8 c g) (placed l k 12 d h)

@@ -1,11 +1,22 @@
--- The equivalent inverse cipher (FIPS 197, section 5.3.5): its round keys, with InvMixColumns of round keys 1 to 9, and its rounds.
+-- The equivalent inverse cipher (FIPS 197, section 5.3.5) as a way through the cipher's own rounds: its round keys stand in the order of their use, and in
+-- each state and each round key the second and the fourth column have changed places, so that ShiftRows moves its rows to the right.
 use mathlib.Core.List.{List}
 use mathlib.Core.Path.{_≡_}
-use Prim.Native.Nat.{ℕ, zero, suc, _-_, _/_, _<_, _≤_}
+use Prim.Native.Nat.{ℕ, _+_, _-_, _*_, _/_, _%_, _<_, _≤_}
 use lib.ListN.{length}
+use Rattle.aes.specs.declared.columns.Columns.{Columns}
 use Rattle.aes.specs.Chain.{unchained}
-use Rattle.aes.specs.State.{at, byteOf, addRoundKey, invSubBytes, invShiftRows, invMixColumns}
+use Rattle.aes.specs.State.{at, state, byteOf, invMixColumns}
 use Rattle.aes.specs.Words.{fourWords}
+use Rattle.aes.specs.Ways.{back, cipherBy}
+
+-- A state whose second and fourth column have changed places.
+unfoldable pub flipped : List ℕ → List ℕ
+flipped s = state (λ i. at s ((4 - i / 4) % 4 * 4 + i % 4))
+
+-- The same of columns.
+abbrev pub changed : Columns → Columns
+changed x = record { a = x .a; b = x .d; c = x .c; d = x .b }
 
 -- The word v is InvMixColumns of the word w.
 pub record Unmixed (w v : ℕ) : Type 0 where
@@ -14,24 +25,26 @@ pub record Unmixed (w v : ℕ) : Type 0 where
   pub byte2 : byteOf v 2 ≡ at (invMixColumns (fourWords w 0 0 0)) 2
   pub byte3 : byteOf v 3 ≡ at (invMixColumns (fourWords w 0 0 0)) 3
 
--- Word i of the inverse cipher's keys: the schedule's own word, but InvMixColumns of it in round keys 1 to 9.
-pub record InverseKey (w : List ℕ) (i v : ℕ) : Type 0 where
-  pub first : i < 4 → v ≡ at w i
-  pub inner : 4 ≤ i → i < 40 → Unmixed (at w i) v
-  pub last : 40 ≤ i → v ≡ at w i
+-- The word v is what the inverse cipher takes for the word w of round key r: InvMixColumns of it in rounds 1 to 9, and itself in rounds 0 and 10.
+pub record Taken (r w v : ℕ) : Type 0 where
+  pub first : r ≡ 0 → v ≡ w
+  pub inner : 1 ≤ r → r ≤ 9 → Unmixed w v
+  pub last : r ≡ 10 → v ≡ w
 
--- The words of the inverse cipher's keys, as far as word n.
+-- The columns y are what the inverse cipher takes for round key r of the schedule w.
+pub record InverseKey (w : List ℕ) (r : ℕ) (y : Columns) : Type 0 where
+  pub first : Taken r (at w (r * 4 + 0)) (y .a)
+  pub second : Taken r (at w (r * 4 + 3)) (y .b)
+  pub third : Taken r (at w (r * 4 + 2)) (y .c)
+  pub fourth : Taken r (at w (r * 4 + 1)) (y .d)
+
+-- The words v are the inverse cipher's first n round keys: the schedule's, the last one first.
 pub record InverseKeys (n : ℕ) (w v : List ℕ) : Type 0 where
-  pub key : (i : ℕ) → i < n → InverseKey w i (at v i)
+  pub key : (r j : ℕ) → r < n → j < 4 → Taken (10 - r) (at w ((10 - r) * 4 + (4 - j) % 4)) (at v (r * 4 + j))
 
--- The first n full rounds with the keys v, with round keys 9, 8, ..
-unfoldable pub eqRounds : List ℕ → ℕ → List ℕ → List ℕ
-eqRounds v zero s = s
-eqRounds v (suc n) s = addRoundKey v (9 - n) (invMixColumns (invSubBytes (invShiftRows (eqRounds v n s))))
-
--- EqInvCipher: round key 10 is added, nine full rounds follow, and a last one that mixes no columns.
+-- EqInvCipher under these keys.
 unfoldable pub eqInvCipher : List ℕ → List ℕ → List ℕ
-eqInvCipher v s = addRoundKey v 0 (invSubBytes (invShiftRows (eqRounds v 9 (addRoundKey v 10 s))))
+eqInvCipher v s = flipped (cipherBy back v (flipped s))
 
 -- CBC decryption by the equivalent inverse cipher.
 unfoldable pub eqDecrypt : List ℕ → List ℕ → List ℕ → List ℕ

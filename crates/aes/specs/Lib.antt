@@ -4,4 +4,5 @@ pub mod Schedule
 pub mod Cipher
 pub mod Chain
 pub mod Words
+pub mod Ways
 pub mod Inverse

@@ -1,7 +1,7 @@
 -- How the code holds a state: four words, one for each column, and a table of shares for the mixing of columns.
 use mathlib.Core.Path.{_≡_}
 use mathlib.Core.List.{List, [], _∷_}
-use Prim.Native.Nat.{ℕ, _+_, _-_, _%_}
+use Prim.Native.Nat.{ℕ, _+_, _-_, _*_, _%_}
 use lib.ListN.{set}
 use Rattle.field.specs.Field.{_⊕_}
 use Rattle.field.specs.Mixing.{word}
@@ -43,14 +43,29 @@ pub record Loaded (b : List ℕ) (x : Columns) : Type 0 where
 abbrev pub fourSet : List ℕ → ℕ → ℕ → ℕ → ℕ → ℕ → List ℕ
 fourSet w k a b c d = set (set (set (set w k a) (k + 1) b) (k + 2) c) (k + 3) d
 
--- The shares of four bytes in one column, summed: the first byte of a, the second of b, the third of c and the fourth of d, through a table of shares.
+-- Round key r of the words w, in columns.
+pub record RoundKey (w : List ℕ) (r : ℕ) (x : Columns) : Type 0 where
+  pub first : x .a ≡ at w (r * 4 + 0)
+  pub second : x .b ≡ at w (r * 4 + 1)
+  pub third : x .c ≡ at w (r * 4 + 2)
+  pub fourth : x .d ≡ at w (r * 4 + 3)
+
+-- The shares of four bytes in one column, summed: the first byte of a, the second of b, the third of c and the fourth of d, through a table of the third row's shares.
 unfoldable pub sharedWord : List ℕ → ℕ → ℕ → ℕ → ℕ → ℕ
 sharedWord t a b c d =
-    at t (byteOf a 0) ⊕ turned (at t (byteOf b 1)) 1 ⊕ turned (at t (byteOf c 2)) 2 ⊕ turned (at t (byteOf d 3)) 3
+    turned (at t (byteOf a 0)) 2 ⊕ turned (at t (byteOf b 1)) 3 ⊕ at t (byteOf c 2) ⊕ turned (at t (byteOf d 3)) 1
 
--- The first byte of a, the second of b, the third of c and the fourth of d, each through a table.
-unfoldable pub substitutedWord : List ℕ → ℕ → ℕ → ℕ → ℕ → ℕ
-substitutedWord t a b c d = word (at t (byteOf a 0)) (at t (byteOf b 1)) (at t (byteOf c 2)) (at t (byteOf d 3))
+-- What g takes of a table's entries at the first byte of a, the second of b, the third of c and the fourth of d, in a word.
+unfoldable pub pickedWord : (ℕ → ℕ) → List ℕ → ℕ → ℕ → ℕ → ℕ → ℕ
+pickedWord g t a b c d = word (g (at t (byteOf a 0))) (g (at t (byteOf b 1))) (g (at t (byteOf c 2))) (g (at t (byteOf d 3)))
+
+-- The entries themselves.
+abbrev pub substitutedWord : List ℕ → ℕ → ℕ → ℕ → ℕ → ℕ
+substitutedWord = pickedWord (λ x. x)
+
+-- The last byte of each entry.
+abbrev pub lowestWord : List ℕ → ℕ → ℕ → ℕ → ℕ → ℕ
+lowestWord = pickedWord (λ x. x % 256)
 
 -- The four words after x in a key schedule, with a round constant k: FIPS 197's loop, four turns of it.
 pub record NextKey (x : Columns) (k : ℕ) (y : Columns) : Type 0 where

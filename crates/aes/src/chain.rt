@@ -6,10 +6,10 @@ use crate::schedule;
 ghost use mathlib.Core.Path.{_≡_};
 ghost use Prim.Native.Nat.{_+_, _≤_};
 ghost use lib.ListN.{length};
-ghost use Rattle.field.specs.Field.{subByte, invSubByte};
+ghost use Rattle.field.specs.Field.{invSubByte};
 ghost use Rattle.field.specs.Mixing.{mixedEntry, unmixedEntry};
 ghost use Rattle.field.specs.Table.{Table};
-ghost use Rattle.lists.specs.Parts.{partAt};
+ghost use Rattle.lists.specs.Parts.{partAt, putAt};
 ghost use Rattle.aes.specs.State.{plus};
 ghost use Rattle.aes.specs.Cipher.{cipher};
 ghost use Rattle.aes.specs.Schedule.{keyExpansion};
@@ -18,39 +18,27 @@ ghost use Rattle.aes.specs.Inverse.{eqInvCipher, eqDecrypt};
 ghost use Rattle.aes.specs.Words.{blockOf};
 
 // A block at place k added to the block before and enciphered.
-fn link(
-    t: &[u32; 256],
-    s: &[u8; 256],
-    w: &[u32; 44],
-    before: Columns,
-    b: &[u8],
-    k: usize,
-) -> Columns
+fn link(t: &[u32; 256], w: &[u32; 44], before: Columns, b: &[u8], k: usize) -> Columns
     requires { ⌜ Table 256 mixedEntry (now t) ⌝ }
-    requires { ⌜ Table 256 subByte (now s) ⌝ }
     requires { ⌜ k + 16 ≤ length (now b) ⌝ }
     ensures { λ r. ⌜ blockOf r ≡ cipher (now (w .entry)) (plus (blockOf before) (partAt k 16 (now (b .entry)))) ⌝ }
 {
     let x = columns::plus(before, columns::columns_at(b, k));
-    cipher::encipher_columns(t, s, w, x)
+    cipher::through(t, t, w, x)
 }
 
-// A block at place k deciphered and added to the block before.
-fn unlink(
-    t: &[u32; 256],
-    s: &[u8; 256],
-    v: &[u32; 44],
-    before: Columns,
-    b: &[u8],
-    k: usize,
-) -> Columns
+// The block at place k, deciphered and added to the block before, takes its own place.
+fn unlink(t: &[u32; 256], u: &[u32; 256], v: &[u32; 44], before: Columns, b: &mut [u8], k: usize)
     requires { ⌜ Table 256 unmixedEntry (now t) ⌝ }
-    requires { ⌜ Table 256 invSubByte (now s) ⌝ }
+    requires { ⌜ Table 256 invSubByte (now u) ⌝ }
     requires { ⌜ k + 16 ≤ length (now b) ⌝ }
-    ensures { λ r. ⌜ blockOf r ≡ plus (eqInvCipher (now (v .entry)) (partAt k 16 (now (b .entry)))) (blockOf before) ⌝ }
+    ensures { λ _. ⌜ now (b .exit) ≡ putAt k 16 (plus (eqInvCipher (now (v .entry)) (partAt k 16 (now (b .entry)))) (blockOf before)) (now (b .entry)) ⌝ }
 {
-    let x = cipher::decipher_columns(t, s, v, columns::columns_at(b, k));
-    columns::plus(x, before)
+    let x = cipher::through(t, u, v, columns::flip(columns::columns_at(b, k)));
+    columns::put_word(x.a ^ before.a, b, k);
+    columns::put_word(x.d ^ before.b, b, k + 4);
+    columns::put_word(x.c ^ before.c, b, k + 8);
+    columns::put_word(x.b ^ before.d, b, k + 12);
 }
 
 // The last block of the chain over all whole blocks of b, after the block before.
@@ -62,11 +50,10 @@ pub fn absorb(w: &[u32; 44], before: &[u8; 16], b: &[u8]) -> [u8; 16]
         return *before;
     }
     let t = field::mixed();
-    let s = field::sbox();
     let mut x = columns::columns_of(before);
     let mut i: usize = 0;
     while i < n {
-        let y = link(&t, &s, w, x, b, i * 16);
+        let y = link(&t, w, x, b, i * 16);
         x = y;
         i += 1;
     }
@@ -78,13 +65,12 @@ pub fn encrypt(w: &[u32; 44], iv: &[u8; 16], b: &mut [u8])
     ensures { λ _. ⌜ now (b .exit) ≡ cbcEncrypt (now (w .entry)) (now (iv .entry)) (now (b .entry)) ⌝ }
 {
     let t = field::mixed();
-    let s = field::sbox();
     let n = b.len() / 16;
     let mut x = columns::columns_of(iv);
     let mut i: usize = 0;
     while i < n {
         let k = i * 16;
-        let y = link(&t, &s, w, x, b, k);
+        let y = link(&t, w, x, b, k);
         columns::store(y, b, k);
         x = y;
         i += 1;
@@ -105,15 +91,14 @@ fn unchain(v: &[u32; 44], iv: &[u8; 16], b: &mut [u8])
     ensures { λ _. ⌜ now (b .exit) ≡ eqDecrypt (now (v .entry)) (now (iv .entry)) (now (b .entry)) ⌝ }
 {
     let t = field::unmixed();
-    let s = field::inv_sbox();
+    let u = field::inv_sbox();
     let n = b.len() / 16;
     let mut x = columns::columns_of(iv);
     let mut i: usize = 0;
     while i < n {
         let k = i * 16;
         let c = columns::columns_at(b, k);
-        let y = unlink(&t, &s, v, x, b, k);
-        columns::store(y, b, k);
+        unlink(&t, &u, v, x, b, k);
         x = c;
         i += 1;
     }

@@ -4,8 +4,9 @@ ghost use Prim.Native.Nat.{_+_, _≤_};
 ghost use lib.ListN.{length};
 ghost use Rattle.lists.specs.Parts.{putAt};
 ghost use Rattle.field.specs.Field.{_⊕_};
-ghost use Rattle.aes.specs.State.{at, state};
-ghost use Rattle.aes.specs.Words.{Word, Loaded, turned, blockOf};
+ghost use Rattle.aes.specs.State.{at, state, byteOf};
+ghost use Rattle.aes.specs.Inverse.{changed};
+ghost use Rattle.aes.specs.Words.{Word, Loaded, turned, blockOf, fourSet};
 
 // The four columns of a state, the first row in the highest byte of each word.
 pub struct Columns {
@@ -50,44 +51,24 @@ pub(crate) fn turn_three(x: u32) -> u32
     x % 16777216 * 256 + x / 16777216
 }
 
+// The word of the four bytes that stand from place k on.
+fn word_at(b: &[u8], k: usize) -> u32
+    requires { ⌜ k + 4 ≤ length (now b) ⌝ }
+    ensures { λ r. ⌜ Word (at (now (b .entry)) k) (at (now (b .entry)) (k + 1)) (at (now (b .entry)) (k + 2)) (at (now (b .entry)) (k + 3)) r ⌝ }
+{
+    word_of(b[k], b[k + 1], b[k + 2], b[k + 3])
+}
+
 // The columns of a block of sixteen bytes.
 pub(crate) fn columns_of(b: &[u8; 16]) -> Columns
     ensures { λ r. ⌜ Loaded (now (b .entry)) r ⌝ }
 {
     Columns {
-        a: word_of(b[0], b[1], b[2], b[3]),
-        b: word_of(b[4], b[5], b[6], b[7]),
-        c: word_of(b[8], b[9], b[10], b[11]),
-        d: word_of(b[12], b[13], b[14], b[15]),
+        a: word_at(b, 0),
+        b: word_at(b, 4),
+        c: word_at(b, 8),
+        d: word_at(b, 12),
     }
-}
-
-// The sixteen bytes of a block's columns.
-pub(crate) fn bytes_of(x: Columns) -> [u8; 16]
-    ensures { λ r. ⌜ r ≡ blockOf x ⌝ }
-{
-    let a = x.a;
-    let b = x.b;
-    let c = x.c;
-    let d = x.d;
-    [
-        (a / 16777216 % 256) as u8,
-        (a / 65536 % 256) as u8,
-        (a / 256 % 256) as u8,
-        (a % 256) as u8,
-        (b / 16777216 % 256) as u8,
-        (b / 65536 % 256) as u8,
-        (b / 256 % 256) as u8,
-        (b % 256) as u8,
-        (c / 16777216 % 256) as u8,
-        (c / 65536 % 256) as u8,
-        (c / 256 % 256) as u8,
-        (c % 256) as u8,
-        (d / 16777216 % 256) as u8,
-        (d / 65536 % 256) as u8,
-        (d / 256 % 256) as u8,
-        (d % 256) as u8,
-    ]
 }
 
 // The sum of two states.
@@ -108,11 +89,34 @@ pub(crate) fn columns_at(b: &[u8], k: usize) -> Columns
     ensures { λ r. ⌜ blockOf r ≡ state (λ i. at (now (b .entry)) (k + i)) ⌝ }
 {
     Columns {
-        a: word_of(b[k], b[k + 1], b[k + 2], b[k + 3]),
-        b: word_of(b[k + 4], b[k + 5], b[k + 6], b[k + 7]),
-        c: word_of(b[k + 8], b[k + 9], b[k + 10], b[k + 11]),
-        d: word_of(b[k + 12], b[k + 13], b[k + 14], b[k + 15]),
+        a: word_at(b, k),
+        b: word_at(b, k + 4),
+        c: word_at(b, k + 8),
+        d: word_at(b, k + 12),
     }
+}
+
+// Columns of which the second and the fourth change places.
+pub(crate) fn flip(x: Columns) -> Columns
+    ensures { λ r. ⌜ r ≡ changed x ⌝ }
+{
+    Columns {
+        a: x.a,
+        b: x.d,
+        c: x.c,
+        d: x.b,
+    }
+}
+
+// Lays the four bytes of a word down from place k on.
+pub(crate) fn put_word(x: u32, b: &mut [u8], k: usize)
+    requires { ⌜ k + 4 ≤ length (now b) ⌝ }
+    ensures { λ _. ⌜ now (b .exit) ≡ fourSet (now (b .entry)) k (byteOf x 0) (byteOf x 1) (byteOf x 2) (byteOf x 3) ⌝ }
+{
+    b[k] = (x / 16777216 % 256) as u8;
+    b[k + 1] = (x / 65536 % 256) as u8;
+    b[k + 2] = (x / 256 % 256) as u8;
+    b[k + 3] = (x % 256) as u8;
 }
 
 // Lays the sixteen bytes of a block's columns down from place k on.
@@ -120,20 +124,17 @@ pub(crate) fn store(x: Columns, b: &mut [u8], k: usize)
     requires { ⌜ k + 16 ≤ length (now b) ⌝ }
     ensures { λ _. ⌜ now (b .exit) ≡ putAt k 16 (blockOf x) (now (b .entry)) ⌝ }
 {
-    b[k] = (x.a / 16777216 % 256) as u8;
-    b[k + 1] = (x.a / 65536 % 256) as u8;
-    b[k + 2] = (x.a / 256 % 256) as u8;
-    b[k + 3] = (x.a % 256) as u8;
-    b[k + 4] = (x.b / 16777216 % 256) as u8;
-    b[k + 5] = (x.b / 65536 % 256) as u8;
-    b[k + 6] = (x.b / 256 % 256) as u8;
-    b[k + 7] = (x.b % 256) as u8;
-    b[k + 8] = (x.c / 16777216 % 256) as u8;
-    b[k + 9] = (x.c / 65536 % 256) as u8;
-    b[k + 10] = (x.c / 256 % 256) as u8;
-    b[k + 11] = (x.c % 256) as u8;
-    b[k + 12] = (x.d / 16777216 % 256) as u8;
-    b[k + 13] = (x.d / 65536 % 256) as u8;
-    b[k + 14] = (x.d / 256 % 256) as u8;
-    b[k + 15] = (x.d % 256) as u8;
+    put_word(x.a, b, k);
+    put_word(x.b, b, k + 4);
+    put_word(x.c, b, k + 8);
+    put_word(x.d, b, k + 12);
+}
+
+// The sixteen bytes of a block's columns.
+pub(crate) fn bytes_of(x: Columns) -> [u8; 16]
+    ensures { λ r. ⌜ r ≡ blockOf x ⌝ }
+{
+    let mut r = [0u8; 16];
+    store(x, &mut r, 0);
+    r
 }

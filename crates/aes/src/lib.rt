@@ -20,10 +20,23 @@ pub fn expand(key: &[u8; 16]) -> [u32; 44]
 pub fn encipher(w: &[u32; 44], block: &[u8; 16]) -> [u8; 16]
     ensures { λ r. ⌜ r ≡ cipher (now (w .entry)) (now (block .entry)) ⌝ }
 {
+    let mut out = [0u8; 16];
+    encipher_to(w, block, &mut out);
+    out
+}
+
+// Cipher: a block under the words of a key schedule goes to out.
+//
+// Each word is laid down right after it is read: so its four bytes become one store, and whoever reads the block by words next need not wait.
+pub fn encipher_to(w: &[u32; 44], block: &[u8; 16], out: &mut [u8; 16])
+    ensures { λ _. ⌜ now (out .exit) ≡ cipher (now (w .entry)) (now (block .entry)) ⌝ }
+{
     let t = field::mixed();
-    let s = field::sbox();
-    let x = cipher::encipher_columns(&t, &s, w, columns::columns_of(block));
-    columns::bytes_of(x)
+    let x = cipher::through(&t, &t, w, columns::columns_of(block));
+    columns::put_word(x.a, out, 0);
+    columns::put_word(x.b, out, 4);
+    columns::put_word(x.c, out, 8);
+    columns::put_word(x.d, out, 12);
 }
 
 // InvCipher: a block under a key.
@@ -33,7 +46,7 @@ pub fn decipher(key: &[u8; 16], block: &[u8; 16]) -> [u8; 16]
     let w = schedule::expand(key);
     let v = schedule::invert(&w);
     let t = field::unmixed();
-    let s = field::inv_sbox();
-    let x = cipher::decipher_columns(&t, &s, &v, columns::columns_of(block));
-    columns::bytes_of(x)
+    let u = field::inv_sbox();
+    let x = cipher::through(&t, &u, &v, columns::flip(columns::columns_of(block)));
+    columns::bytes_of(columns::flip(x))
 }

@@ -3,13 +3,13 @@ use crate::columns;
 use crate::columns::Columns;
 use crate::rounds;
 ghost use mathlib.Core.Path.{_≡_};
-ghost use Prim.Native.Nat.{_*_, _≤_, _<_};
+ghost use Prim.Native.Nat.{_*_, _≤_};
 ghost use Rattle.field.specs.Field.{subByte};
 ghost use Rattle.field.specs.Mixing.{unmixedEntry};
 ghost use Rattle.field.specs.Table.{Table};
 ghost use Rattle.aes.specs.Schedule.{keyExpansion};
 ghost use Rattle.aes.specs.Words.{NextKey, fourSet};
-ghost use Rattle.aes.specs.Inverse.{InverseKey, InverseKeys};
+ghost use Rattle.aes.specs.Inverse.{Unmixed, InverseKey, InverseKeys};
 
 // The round constants, Rcon[1] to Rcon[10].
 const RCON: [u32; 10] = [
@@ -69,35 +69,49 @@ pub(crate) fn expand(key: &[u8; 16]) -> [u32; 44]
     w
 }
 
-// Word i of the keys of the equivalent inverse cipher, through the S-box s and the table t.
-fn inverse_key(s: &[u8; 256], t: &[u32; 256], w: &[u32; 44], i: usize) -> u32
+// InvMixColumns of a word, through the S-box s and the table t.
+fn unmixed(s: &[u8; 256], t: &[u32; 256], k: u32) -> u32
     requires { ⌜ Table 256 subByte (now s) ⌝ }
     requires { ⌜ Table 256 unmixedEntry (now t) ⌝ }
-    requires { ⌜ i < 44 ⌝ }
-    ensures { λ v. ⌜ InverseKey (now (w .entry)) i v ⌝ }
+    ensures { λ v. ⌜ Unmixed k v ⌝ }
 {
-    let k = w[i];
-    if i < 4 {
-        return k;
-    }
-    if 40 <= i {
-        return k;
-    }
     let x = rounds::substituted(s, k, k, k, k, 0);
     rounds::shared(t, x, x, x, x, 0)
 }
 
-// The keys of the equivalent inverse cipher: InvMixColumns of round keys 1 to 9.
+// What the inverse cipher takes for round key r of the schedule w, through the S-box s and the table t.
+fn inverse_key(s: &[u8; 256], t: &[u32; 256], w: &[u32; 44], r: usize) -> Columns
+    requires { ⌜ Table 256 subByte (now s) ⌝ }
+    requires { ⌜ Table 256 unmixedEntry (now t) ⌝ }
+    requires { ⌜ r ≤ 10 ⌝ }
+    ensures { λ y. ⌜ InverseKey (now (w .entry)) r y ⌝ }
+{
+    let k = rounds::round_key(w, r);
+    if r == 0 {
+        return columns::flip(k);
+    }
+    if r == 10 {
+        return columns::flip(k);
+    }
+    let a = unmixed(s, t, k.a);
+    let b = unmixed(s, t, k.d);
+    let c = unmixed(s, t, k.c);
+    let d = unmixed(s, t, k.b);
+    Columns { a, b, c, d }
+}
+
+// The keys of the inverse cipher, in the order of their use.
 pub(crate) fn invert(w: &[u32; 44]) -> [u32; 44]
-    ensures { λ v. ⌜ InverseKeys 44 (now (w .entry)) v ⌝ }
+    ensures { λ v. ⌜ InverseKeys 11 (now (w .entry)) v ⌝ }
 {
     let s = field::sbox();
     let t = field::unmixed();
     let mut v = [0u32; 44];
-    let mut i: usize = 0;
-    while i < 44 {
-        v[i] = inverse_key(&s, &t, w, i);
-        i += 1;
+    let mut r: usize = 0;
+    while r < 11 {
+        let y = inverse_key(&s, &t, w, 10 - r);
+        put(&mut v, r, y);
+        r += 1;
     }
     v
 }

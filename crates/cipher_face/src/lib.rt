@@ -20,8 +20,7 @@ pub extern "C" fn hq_aes_expand(key: &[u8; 16], w: &mut [u32; 44])
 pub extern "C" fn hq_aes_encipher(w: &[u32; 44], block: &[u8; 16], out: &mut [u8; 16])
     ensures { λ _. ⌜ now (out .exit) ≡ cipher (now (w .entry)) (now (block .entry)) ⌝ }
 {
-    let r = aes::encipher(w, block);
-    *out = r;
+    aes::encipher_to(w, block, out);
 }
 
 // InvCipher: a block under a key goes to out.

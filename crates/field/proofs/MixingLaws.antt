@@ -78,6 +78,11 @@ product-is f g x = eqb (f x) (g x)
 same-on-bytes : (f g : ℕ → ℕ) → T (every (λ k x. product-is f g k) 0 (replicate 256 0)) → (x : ℕ) → x < 256 → f x ≡ g x
 same-on-bytes f g t x h = eqb→eq (f x) (g x) (all-bytes (product-is f g) t x h)
 
+-- once a byte is the byte
+pub one-• : (x : ℕ) → x < 256 → 1 • x ≡ x
+unfolding _⊕_ xtimes productBy _•_
+one-• = same-on-bytes (λ x. 1 • x) (λ x. x) tt
+
 pub unmix-mix : UndoRow 14 11 13 9 2 3 1 1
 unfolding row _⊕_ xtimes productBy _•_
 unmix-mix =

@@ -261,7 +261,7 @@ pub const SBOX: [u8; 256] = [
 ];
 
 // The inverse S-box: entry b is InvSubBytes of the byte b.
-pub const INV_SBOX: [u8; 256] = [
+pub const INV_SBOX: [u32; 256] = [
     82,
     9,
     106,

@@ -1,23 +1,32 @@
 -- `aes::decipher` meets its promise.
+use Rattle.aes.proofs.CipherLaws.{through-back, deciphered}
 use Rattle.aes.specs.Words.{blockOf}
-use Rattle.aes.proofs.CipherLaws.{deciphered}
 use borrow.Author.Needs.{needs}
 use Rattle.aes.proofs.decipher.Statement.{statement}
 use Rattle.aes.proofs.decipher.Tie as tie
 
 returns : tie.Need-returns
 returns c =
-    let args = c .before .before .before .before .before .before .before .before .before .before .before .args in
-    deciphered (args .key .now) (c .before .before .before .before .before .before .before .before .before .before .expand .result) (c .before .before
-    .before .before .before .before .before .before .invert .result) (args .block .now) (blockOf (c .before .before .columns-of .result)) (blockOf (c
-    .before .decipher-columns .result)) (c .bytes-of .result) (c .before .before .before .before .before .before .before .before .before .before
-    .expand .ensures) (c .before .before .before .before .before .before .before .before .invert .ensures) (c .before .before .columns-of .ensures
-    .block) (c .before .decipher-columns .ensures) (c .bytes-of .ensures)
+    let w = c .before .before .before .before .before .before .before .before .before .before .before .before .expand in
+    let v = c .before .before .before .before .before .before .before .before .before .before .invert in
+    let t = c .before .before .before .before .before .before .before .before .before .unmixed in
+    let u = c .before .before .before .before .before .before .before .before .inv-sbox in
+    let x = c .before .before .before .before .columns-of in
+    let f = c .before .before .before .flip in
+    let z = c .before .before .through in
+    let y = c .before .flip2 in
+    let args = c .before .before .before .before .before .before .before .before .before .before .before .before .before .args in
+    deciphered (args .key .now) (w .result) (v .result) (args .block .now) (blockOf (x .result)) (c .bytes-of .result) (z .result) (y .result)
+    (w .ensures) (v .ensures) (x .ensures .block)
+    (through-back (t .result) (u .result) (v .result) (x .result) (f .result) (blockOf (z .result)) (t .ensures) (u .ensures) (f .ensures) (z .ensures))
+    (y .ensures) (c .bytes-of .ensures)
 
 pub decipher-spec : {M : Type 1} → statement M
 decipher-spec =
     tie.close
     (tie.spec
+    (λ c κs. search needs)
+    (λ c κs. search needs)
     (λ c κs. search needs)
     (λ c κs. search needs)
     (λ c κs. search needs)

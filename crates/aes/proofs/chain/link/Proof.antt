@@ -1,5 +1,6 @@
 -- `aes::chain::link` meets its promise.
 use Rattle.aes.proofs.ChainLaws.{linked}
+use Rattle.aes.proofs.CipherLaws.{through-there}
 use Rattle.aes.specs.Words.{blockOf}
 use borrow.Author.Needs.{needs}
 use Rattle.aes.proofs.chain.link.Statement.{statement}
@@ -8,9 +9,10 @@ use Rattle.aes.proofs.chain.link.Tie as tie
 returns : tie.Need-returns
 returns c =
     let args = c .before .before .before .before .args in
+    let pre = c .before .before .before .before .pre in
     linked (args .w .now) (args .b .now) (args .k) (blockOf (args .before)) (blockOf (c .before .before .columns-at .result)) (blockOf (c .before
-    .plus .result)) (blockOf (c .encipher-columns .result)) (c .before .before .before .before .pre .1 .1) (c .before .before .columns-at .ensures) (c
-    .before .plus .ensures) (c .encipher-columns .ensures)
+    .plus .result)) (blockOf (c .through .result)) (pre .1) (c .before .before .columns-at .ensures) (c .before .plus .ensures)
+    (through-there (args .t .now) (args .w .now) (blockOf (c .before .plus .result)) (blockOf (c .through .result)) (pre .0) (c .through .ensures))
 
 pub link-spec : {M : Type 1} → statement M
 link-spec =

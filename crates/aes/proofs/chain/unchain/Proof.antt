@@ -6,6 +6,8 @@ use mathlib.Core.List.{List}
 use lib.ListN.{length}
 use native.Mathlib.Omega.{arith}
 use Rattle.aes.specs.Words.{blockOf}
+use Rattle.lists.specs.Parts.{partAt}
+use Rattle.aes.specs.State.{plus}
 use Rattle.aes.specs.Chain.{unchained}
 use Rattle.aes.specs.Inverse.{eqInvCipher, eqDecrypt}
 use Rattle.aes.proofs.ChainLaws.{After, after-none, after-more, after-all, unchained-one, unchained-none, unchained-from, bytes-part}
@@ -32,28 +34,21 @@ columns-at-requires c κs = omega (arith, c .before .before .loop .inv .1 .size)
 unlink-requires : tie.Need-unlink-requires Inv-loop μ-loop
 unlink-requires c κs = (search needs, (search needs, omega (arith, c .before .before .before .before .before .before .loop .inv .1 .size)))
 
-store-requires : tie.Need-store-requires Inv-loop μ-loop
-store-requires c κs = omega (arith, c .before .before .before .before .before .before .before .before .loop .inv .1 .size)
-
 add-i : tie.Need-add-i Inv-loop μ-loop
-add-i c =
-    omega (
-      arith,
-      c .before .before .before .before .before .before .before .before .before .before .loop-test .taken,
-      c .before .before .before
-          .before .before .before .before .before .before .before .before .before .before .before .before .before .good,
-    )
+add-i c = omega (arith, c .before .before .before .before .before .before .before .before .loop-test .taken, c .before .before .before .before .before .before .before .before .before .before .before .before .before .before .good)
 
 loop-again : tie.Need-loop-again Inv-loop μ-loop
+unfolding plus
 loop-again c =
-    let args = c .before .before .before .before .before .before .before .before .before .before .before .before .before .before .before .before .args in
-    let turn = c .before .before .before .before .before .before .before .before .before .before .before .loop in (
+    let args = c .before .before .before .before .before .before .before .before .before .before .before .before .before .before .args in
+    let turn = c .before .before .before .before .before .before .before .before .before .loop in
+    let next = c .before .before .before .before .before .before .columns-at in
+    let inv = eqInvCipher (args .v .now) in
+    let block = plus (inv (partAt (turn .i * 16) 16 (turn .b))) (blockOf (turn .x)) in (
       search needs,
-      after-more (turn .i) _ _ (args .b .now) (turn .b) (blockOf (c .before .before .before .before .unlink .result)) _ _ _ (omega arith)
-          refl refl (c .before .before .store .ensures) (unchained-one (eqInvCipher (args .v .now)) _ (turn .i) (blockOf (turn .x)) (turn .b) (blockOf (c
-          .before .before .before .before .before .before .before .before .columns-at .result)) (blockOf (c .before .before .before .before .unlink
-          .result)) (omega arith) (c .before .before .before .before .before .before .before .before .columns-at .ensures ∙ bytes-part (turn .b) (turn .i *
-          16) (omega (arith, turn .inv .1 .size))) (c .before .before .before .before .unlink .ensures)) (turn .inv .1),
+      after-more (turn .i) _ _ (args .b .now) (turn .b) block _ _ _ (omega arith) refl refl (c .before .before .unlink .ensures)
+          (unchained-one inv _ (turn .i) (blockOf (turn .x)) (turn .b) (blockOf (next .result)) block (omega arith)
+          (next .ensures ∙ bytes-part (turn .b) (turn .i * 16) (omega (arith, turn .inv .1 .size))) refl) (turn .inv .1),
     )
 
 same-length : tie.Need-same-length Inv-loop μ-loop
@@ -82,7 +77,6 @@ unchain-spec =
     (λ c. search needs)
     columns-at-requires
     unlink-requires
-    store-requires
     add-i
     (λ c. search needs)
     loop-again

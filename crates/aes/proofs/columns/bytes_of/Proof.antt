@@ -1,30 +1,14 @@
 -- `aes::columns::bytes_of` meets its promise.
-use Rattle.aes.proofs.WordLaws.{block-is}
+use Rattle.aes.proofs.ChainLaws.{put-all}
+use Rattle.aes.specs.Words.{blockOf}
+use lib.ListN.{replicate}
+use mathlib.Core.Path.{refl, _∙_}
 use borrow.Author.Needs.{needs}
 use Rattle.aes.proofs.columns.bytes_of.Statement.{statement}
 use Rattle.aes.proofs.columns.bytes_of.Tie as tie
 
 returns : tie.Need-returns
-returns c = block-is (c .args .x .a) (c .args .x .b) (c .args .x .c) (c .args .x .d)
+returns c = c .before .store .ensures ∙ put-all 16 (blockOf (c .before .before .before .args .x)) (replicate 16 0) refl
 
 pub bytes-of-spec : {M : Type 1} → statement M
-bytes-of-spec =
-    tie.close
-    (tie.spec
-    (λ c. search needs)
-    (λ c. search needs)
-    (λ c. search needs)
-    (λ c. search needs)
-    (λ c. search needs)
-    (λ c. search needs)
-    (λ c. search needs)
-    (λ c. search needs)
-    (λ c. search needs)
-    (λ c. search needs)
-    (λ c. search needs)
-    (λ c. search needs)
-    (λ c. search needs)
-    (λ c. search needs)
-    (λ c. search needs)
-    (λ c. search needs)
-    returns)
+bytes-of-spec = tie.close (tie.spec (λ c. search needs) (λ c κs. search needs) returns)

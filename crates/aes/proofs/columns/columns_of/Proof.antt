@@ -1,4 +1,5 @@
 -- `aes::columns::columns_of` meets its promise.
+use Rattle.aes.proofs.WordLaws.{loaded-at}
 use Rattle.aes.specs.Schedule.{keyWord}
 use borrow.Author.Needs.{needs}
 use Rattle.aes.proofs.columns.columns_of.Statement.{statement}
@@ -7,64 +8,24 @@ use Rattle.aes.proofs.columns.columns_of.Tie as tie
 returns : tie.Need-returns
 unfolding keyWord
 returns c =
+    let a = c .before .before .before .before .before .before .word-at .ensures in
+    let b = c .before .before .before .before .word-at2 .ensures in
+    let d = c .before .before .word-at3 .ensures in
+    let e = c .word-at4 .ensures in
     record {
-      block = simp (
-        c .before .before .before .before .before .before .before .before .before .before .before .before .before .before .before
-            .word-of .ensures .byte0,
-        c .before .before .before .before .before .before .before .before .before .before .before .before .before .before
-            .before .word-of .ensures .byte1,
-        c .before .before .before .before .before .before .before .before .before .before .before .before .before
-            .before .before .word-of .ensures .byte2,
-        c .before .before .before .before .before .before .before .before .before .before .before .before
-            .before .before .before .word-of .ensures .byte3,
-        c .before .before .before .before .before .before .before .before .before .before .word-of2
-            .ensures .byte0,
-        c .before .before .before .before .before .before .before .before .before .before .word-of2 .ensures .byte1,
-        c .before .before
-            .before .before .before .before .before .before .before .before .word-of2 .ensures .byte2,
-        c .before .before .before .before .before .before
-            .before .before .before .before .word-of2 .ensures .byte3,
-        c .before .before .before .before .before .word-of3 .ensures .byte0,
-        c .before .before
-            .before .before .before .word-of3 .ensures .byte1,
-        c .before .before .before .before .before .word-of3 .ensures .byte2,
-        c .before .before .before
-            .before .before .word-of3 .ensures .byte3,
-        c .word-of4 .ensures .byte0,
-        c .word-of4 .ensures .byte1,
-        c .word-of4 .ensures .byte2,
-        c .word-of4
-            .ensures .byte3,
-      );
-      first = c .before .before .before .before .before .before .before .before .before .before .before .before .before .before
-          .before .word-of .ensures .is;
-      second = c .before .before .before .before .before .before .before .before .before .before .word-of2 .ensures .is;
-      third = c .before .before .before .before .before .word-of3 .ensures .is;
-      fourth = c .word-of4 .ensures .is;
+      block = loaded-at (c .before .before .before .before .before .before .before .before .args .b .now) 0 _ _ _ _ a b d e;
+      first = a .is;
+      second = b .is;
+      third = d .is;
+      fourth = e .is;
     }
 
 pub columns-of-spec : {M : Type 1} → statement M
 columns-of-spec =
     tie.close
     (tie.spec
-    (λ c. search needs)
-    (λ c. search needs)
-    (λ c. search needs)
-    (λ c. search needs)
     (λ c κs. search needs)
-    (λ c. search needs)
-    (λ c. search needs)
-    (λ c. search needs)
-    (λ c. search needs)
     (λ c κs. search needs)
-    (λ c. search needs)
-    (λ c. search needs)
-    (λ c. search needs)
-    (λ c. search needs)
     (λ c κs. search needs)
-    (λ c. search needs)
-    (λ c. search needs)
-    (λ c. search needs)
-    (λ c. search needs)
     (λ c κs. search needs)
     returns)

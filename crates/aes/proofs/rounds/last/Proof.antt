@@ -6,26 +6,18 @@ use Rattle.aes.proofs.rounds.last.Tie as tie
 
 returns : tie.Need-returns
 returns c =
-    let args = c .before .before .before .before .before .before .before .before .args in
-    rw (
-      c .before .before .before .before .before .before .substituted .ensures,
-      c .before .before .before .before .substituted2 .ensures,
-      c .before
-          .before .substituted3 .ensures,
-      c .substituted4 .ensures,
-    ) (last-round (args .t .now) (args .w .now) (args .x .a) (args .x .b) (args .x .c) (args
-    .x .d) (c .before .before .before .before .before .before .before .before .pre))
+    let args = c .before .before .before .before .before .args in
+    let key = c .before .before .before .before .round-key in
+    rw (c .before .before .before .lowest .ensures, c .before .before .lowest2 .ensures, c .before .lowest3 .ensures, c .lowest4 .ensures)
+    (last-round (args .u .now) (args .w .now) (args .x) (key .result) (key .ensures))
 
 pub last-spec : {M : Type 1} → statement M
 last-spec =
     tie.close
     (tie.spec
-    (λ c. search needs)
     (λ c κs. search needs)
-    (λ c. search needs)
     (λ c κs. search needs)
-    (λ c. search needs)
     (λ c κs. search needs)
-    (λ c. search needs)
+    (λ c κs. search needs)
     (λ c κs. search needs)
     returns)

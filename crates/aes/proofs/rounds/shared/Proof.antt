@@ -9,8 +9,8 @@ returns : tie.Need-returns
 unfolding byteOf
 returns c =
     let args = c .before .before .before .before .before .before .before .args in
-    shared-is (args .t .now) (args .a) (args .b) (args .c) (args .d) (args .k) _ _ _ (c .before .before .turn-one .ensures) (c .before .turn-two
-    .ensures) (c .turn-three .ensures)
+    shared-is (args .t .now) (args .a) (args .b) (args .c) (args .d) (args .k) _ _ _ (c .before .before .turn-two .ensures) (c .before .turn-three
+    .ensures) (c .turn-one .ensures)
 
 pub shared-spec : {M : Type 1} → statement M
 shared-spec =

@@ -1,5 +1,5 @@
 -- `aes::rounds::substituted` meets its promise.
-use Rattle.aes.proofs.RoundLaws.{substituted-is}
+use Rattle.aes.proofs.RoundLaws.{picked-is}
 use Rattle.aes.specs.State.{byteOf}
 use borrow.Author.Needs.{needs}
 use Rattle.aes.proofs.rounds.substituted.Statement.{statement}
@@ -9,7 +9,7 @@ returns : tie.Need-returns
 unfolding byteOf
 returns c =
     let args = c .before .before .before .before .before .args in
-    substituted-is (args .t .now) (args .a) (args .b) (args .c) (args .d) (args .k) _ (c .word-of .ensures .is)
+    picked-is (λ x. x) (args .t .now) (args .a) (args .b) (args .c) (args .d) (args .k) _ (c .word-of .ensures .is)
 
 pub substituted-spec : {M : Type 1} → statement M
 substituted-spec =

@@ -1,37 +1,37 @@
 -- `aes::schedule::invert` meets its promise.
-use Rattle.aes.proofs.InverseLaws.{keys-all}
-use borrow.Author.Needs.{needs}
+use Rattle.aes.proofs.InverseLaws.{keys-none, keys-more, keys-all}
 use Prim.Native.Nat.{_≤_, _-_}
 use mathlib.Core.Path.{_≡_, refl}
 use lib.ListN.{length, length-set}
 use native.Mathlib.Omega.{arith}
 use Rattle.aes.specs.Inverse.{InverseKeys}
-use Rattle.aes.proofs.InverseLaws.{keys-none, keys-more}
+use borrow.Author.Needs.{needs}
 use Rattle.aes.proofs.schedule.invert.Statement.{statement}
 use Rattle.aes.proofs.schedule.invert.Tie as tie
 
 abbrev Inv-loop : tie.InvT-loop
-Inv-loop w s t v₀ i₀ v i = (i ≤ 44) × (length v ≡ 44) × InverseKeys i w v
+Inv-loop w s t v₀ r₀ v r = (r ≤ 11) × (length v ≡ 44) × InverseKeys r w v
 
 abbrev μ-loop : tie.MeasureT-loop
-μ-loop w s t v₀ i₀ v i = 44 - i
+μ-loop w s t v₀ r₀ v r = 11 - r
 
 loop-holds : tie.Need-loop-holds Inv-loop μ-loop
 loop-holds c = (search needs, refl, keys-none (c .before .before .args .w .now) _)
 
 loop-again : tie.Need-loop-again Inv-loop μ-loop
 loop-again c =
-    let turn = c .before .before .before .before .loop in (
+    let turn = c .before .before .before .before .before .before .loop in
+    let key = c .before .before .inverse-key in (
       search needs,
-      simp length-set (turn .inv .1),
-      keys-more (c .before .before .before .before .before .before .before .args .w .now) (turn .v) (turn
-          .i) (c .inverse-key .result) (omega arith) (turn .inv .2) (c .inverse-key .ensures),
+      rw (c .put .ensures) (simp length-set (turn .inv .1)),
+      keys-more (c .before .before .before .before .before .before .before .before .before .args .w .now) (turn .v) _ (turn .r) (key .result) (turn .inv .1) (omega arith) (turn .inv .2)
+          (key .ensures) (c .put .ensures),
     )
 
 returns : tie.Need-returns Inv-loop μ-loop
 returns c =
     let turn = c .before .loop in
-    keys-all (c .before .before .before .before .args .w .now) (turn .v) (turn .i) (omega arith) (turn .inv .2)
+    keys-all (c .before .before .before .before .args .w .now) (turn .v) (turn .r) (omega arith) (turn .inv .2)
 
 pub invert-spec : {M : Type 1} → statement M
 invert-spec =
@@ -42,9 +42,9 @@ invert-spec =
     (λ c κs. search needs)
     (λ c κs. search needs)
     loop-holds
+    (λ c. search needs)
     (λ c κs. search needs)
-    (λ c. search needs)
-    (λ c. search needs)
+    (λ c κs. search needs)
     (λ c. search needs)
     (λ c. search needs)
     loop-again
