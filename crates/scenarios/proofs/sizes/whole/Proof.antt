@@ -1,0 +1,15 @@
+-- `whole` is safe and ends: a turn for each byte.
+use borrow.Author.Needs.{needs}
+use Prim.Native.Nat.{_≤_, _-_}
+use lib.ListN.{length}
+use Rattle.scenarios.proofs.sizes.whole.Statement.{statement}
+use Rattle.scenarios.proofs.sizes.whole.Tie as tie
+
+abbrev Inv-loop : tie.InvT-loop
+Inv-loop s i₀ i = i ≤ length s
+
+abbrev μ-loop : tie.MeasureT-loop
+μ-loop s i₀ i = length s - i
+
+pub whole-spec : {M : Type 1} → statement M
+whole-spec = tie.close (tie.spec Inv-loop μ-loop (λ c. search needs) (λ c. search needs) (λ c. search needs) (λ c. search needs) (λ c. search needs) (λ c. search needs) (λ c. search needs))
