@@ -9,7 +9,7 @@ use lib.ListN.{getD}
 use mir.Syntax.{Ty, tyRef, named, erased, mut, Body, seq, assign, return, place, Step as PStep, deref, field, copy, rvOpd, addrOf, aggregate}
 use mir.Val.{Val, vptr}
 use base.Logic.{SProp, sep, ex, id⊢}
-use base.Fml.{GName, Lft, Share, Fml, flft, fobs, fauth, fbor, fobor, fat, froom}
+use base.Fml.{GName, Lft, Share, flft, fobs, fauth, fbor, fobor, fat, froom}
 use prog.Wp.{Heap, Env, Spot, noLocal, Calls, Loops}
 use ghost.Atoms.{Atoms, sem}
 use types.Kit.{Given, Item, ‵, raw, _⊛_, some, later, nth, put, Post, runs, lands, Seq, Step, step, _$_, move, drop, use1, split, pick, regoal, await}
@@ -91,13 +91,13 @@ module _ {M : Type 1} {𝓤 : URA M} {H : Heap 𝓤} {A : Atoms 𝓤} {K : Type 
       assigns t (agg t (and-then t (load t (at t (y′ .0) (stop t)) (look t (past5 j) (y′ .1))) (and-then t (load t (at t (x′ .0) (fld t refl (stop t))) (look-in t (past5 i) (sub t 1 refl (held t (x′ .1))))) (no-more t))))
       (at t (z .0) (stop t)) (init t (past5 k) (z .1) (tt, (tt, (record { fits = fits }, tt)))) $ s)
 
--- the record's five entries, once the borrow is open: its cell at the record h, what that owns, the open borrow, and the two halves of the ghost variable at the record h₀
+-- the borrow of the record, closed at the record h, and open: then its cell, what the record owns, the open borrow, and the two halves of the ghost variable stand in front
 module _ {M : Type 1} (𝓤 : URA M) (κ : Lft) (q : Share) (γ : GName) (b o : ℕ) where
   abbrev pub closed : Processor → List (Item 𝓤) → List (Item 𝓤)
   closed h Δ = ‵ (fobs γ (P.the-row .coded .code h)) ∷ ‵ (fbor κ (Borrowed (mem P.the-row) b o γ)) ∷ ‵ (flft κ q) ∷ Δ
 
-  abbrev pub open′ : Processor → List (Item 𝓤) → List (Item 𝓤)
-  open′ h Δ = ‵ (cellAt fullShare (P.the-row .mir) (recordVal h ∷ []) b o) ∷ ‵ (P.the-row .own h (recordVal h ∷ [])) ∷ ‵ (fobor κ q (Borrowed (mem P.the-row) b o γ)) ∷ ‵ (fobs γ (P.the-row .coded .code h)) ∷ ‵ (fauth γ (P.the-row .coded .code h)) ∷ Δ
+  abbrev pub opened : Processor → List (Item 𝓤) → List (Item 𝓤)
+  opened h Δ = ‵ (cellAt fullShare (P.the-row .mir) (recordVal h ∷ []) b o) ∷ ‵ (P.the-row .own h (recordVal h ∷ [])) ∷ ‵ (fobor κ q (Borrowed (mem P.the-row) b o γ)) ∷ ‵ (fobs γ (P.the-row .coded .code h)) ∷ ‵ (fauth γ (P.the-row .coded .code h)) ∷ Δ
 
 module _ {M : Type 1} (𝓤 : URA M) (H : Heap 𝓤) (A : Atoms 𝓤) where
   -- what the callee leaves, at the machine value w of its answer
@@ -106,7 +106,7 @@ module _ {M : Type 1} (𝓤 : URA M) (H : Heap 𝓤) (A : Atoms 𝓤) where
 
 module _ {M : Type 1} {𝓤 : URA M} {H : Heap 𝓤} {A : Atoms 𝓤} {K : Type 0} {W : Given 𝓤 H A} {E : Env 𝓤 H} {C : Calls 𝓤 H} {Λ : Loops 𝓤 H} {Q : Post 𝓤 H} {κ : Lft} {q : Share} {γ : GName} {Δ : List (Item 𝓤)} where
   pub copies : K → (c : ℕ) (h : Processor) {b o l l₁ : ℕ} {rest : Body} → Holds 𝓤 H A E Δ 1 1 lentTy l₁ (vptr b o) → Empty 𝓤 H A E Δ c c P′.mir l
-      → Step K W (open′ 𝓤 κ q γ b o h (put 𝓤 H A c (‵ (fat fullShare P′.mir l zero (recordVal h))) Δ)) (runs C Λ E rest Q) (closed 𝓤 κ q γ b o h Δ) (runs C Λ E (copying c rest) Q)
+      → Step K W (opened 𝓤 κ q γ b o h (put 𝓤 H A c (‵ (fat fullShare P′.mir l zero (recordVal h))) Δ)) (runs C Λ E rest Q) (closed 𝓤 κ q γ b o h Δ) (runs C Λ E (copying c rest) Q)
   copies t c h {b} {o} x y = step (λ s.
       opens t tt P.the-row {h = h} b o (λ vs. spelt t P.the-row (Is P.the-row) (shows 𝓤 H A P.the-row) (LL.vals P.the-type P′.the-laws) (LL.tells P.the-type P′.the-laws) fullShare h vs b o $
       move t (1 ∷ []) $ peeks t P.the-row (Is P.the-row) (shows 𝓤 H A P.the-row) h (recordVal h ∷ []) (λ was. move t (1 ∷ 0 ∷ []) $

@@ -1,5 +1,4 @@
 -- The locals of a function, all at once: they are allocated in their order, so that local i is entry i of the context, and given back one by one from the first.
-use mathlib.Core.Path.{_≡_, refl}
 use Prim.Native.Nat.{ℕ, zero}
 use mathlib.Core.Option.{Option, none, some}
 use mathlib.Core.List.{List, [], _∷_, _++_}
@@ -13,7 +12,6 @@ use base.Fml.{Fml, ftrue, fsep, fat, froom, fdies}
 use prog.Wp.{Heap, Env, alloc, pass, release}
 use ghost.Atoms.{Atoms, sem}
 use types.Kit.{Given, Item, ‵, raw, _⊛_, mean, ⋆, push, pop, ++⊢, ⊢++, Goal, prop, allocs, params′, frees, aim, Seq, Step, step, _$_, _∵_, !, qed, by, move, keep, use1, use2, split, join, fsplit, fjoin, check, assume, frame, done}
-use types.Run.{free1}
 
 -- a block for each local
 abbrev pub Blocks : List Local → Type 0

@@ -18,7 +18,7 @@ use Rattle.instructions.specs.Refusals.{orElse, rowFlaws}
 use Rattle.instructions.specs.Listing.{entriesFrom, listingRefusal, listing}
 use Rattle.registers.specs.declared.record.Processor.{Processor}
 use Rattle.board.specs.declared.listing.Plan.{Plan}
-use Rattle.board.specs.Listed.{Lists, listedReport, listingOf, planFor}
+use Rattle.board.specs.Listed.{Lists, listedReport, planFor}
 use Rattle.host.specs.Outcome.{machineOf}
 use Rattle.host.specs.declared.listing.LineRecord.{LineRecord}
 use Rattle.host.specs.Row.{rowOf}

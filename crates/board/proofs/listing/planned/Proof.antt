@@ -4,11 +4,7 @@ use Prim.Native.Nat.{ℕ}
 use borrow.Author.Needs.{needs}
 use Rattle.board.proofs.listing.planned.Statement.{statement}
 use Rattle.board.proofs.listing.planned.Tie as tie
-use Rattle.board.proofs.listing.planned.Reads as reads
-use Rattle.board.proofs.listing.planned.Lts as lts
-use Rattle.board.proofs.listing.row_plan.Reads as row-plan-reads
 use Rattle.board.specs.Listed.{planFor}
-use Rattle.host.proofs.listing.refusal.Reads as refusal-reads
 
 refusal-requires : tie.Need-refusal-requires
 refusal-requires c κs = search needs

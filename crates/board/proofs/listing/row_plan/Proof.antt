@@ -3,9 +3,6 @@ use borrow.Author.Needs.{needs}
 use borrow.Author.Tests.{eq-eqb, ne-eqb}
 use Rattle.board.proofs.listing.row_plan.Statement.{statement}
 use Rattle.board.proofs.listing.row_plan.Tie as tie
-use Rattle.board.proofs.listing.row_plan.Reads as reads
-use Rattle.board.proofs.listing.row_plan.Lts as lts
-use Rattle.board.proofs.listing.listed.Reads as listed-reads
 
 listed-requires : tie.Need-listed-requires
 listed-requires c κs = search needs
