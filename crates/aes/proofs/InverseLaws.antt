@@ -7,7 +7,7 @@ use native.Mathlib.Nat.{add-zero, eq-or-lt-of-le}
 use lib.ListN.{length, set, length-set}
 use lib.Seq.{getD-set-same, getD-set-other}
 use native.Mathlib.Omega.{arith}
-use Rattle.field.specs.Field.{_⊕_, _•_, subByte, invSubByte}
+use Rattle.field.specs.Field.{_⊕_, subByte, invSubByte}
 use Rattle.field.specs.Table.{Table}
 use Rattle.field.proofs.Xor.{⊕-zero}
 use Rattle.field.proofs.MixingLaws.{row, row-⊕}

@@ -1,7 +1,6 @@
 // All rounds of the cipher, or of its inverse, on columns.
 use crate::columns::Columns;
 use crate::rounds;
-ghost use mathlib.Core.Path.{_≡_};
 ghost use Rattle.aes.specs.Ways.{Through};
 ghost use Rattle.aes.specs.Words.{blockOf};
 
