@@ -58,39 +58,27 @@ fn lent(mem: &mut [u8], macs: &mut [u8], cache: &mut [u8], dir: &mut [u32], r0: 
     places::report(r);
 }
 
-// How much of each buffer is lent.
-struct Parts {
-    mem: usize,
-    macs: usize,
-    cache: usize,
-    dir: usize,
-}
-
-// Run of 1 on the first parts of what is lent.
-fn cut(mem: &mut [u8], macs: &mut [u8], cache: &mut [u8], dir: &mut [u32], p: Parts, r0: u64) {
-    let m = p.mem;
-    let k = p.macs;
-    let c = p.cache;
-    let d = p.dir;
-    if m > mem.len() {
-        return;
+// Run of 1 on the first m, k, c and d of what is lent.
+fn cut(
+    mem: &mut [u8],
+    macs: &mut [u8],
+    cache: &mut [u8],
+    dir: &mut [u32],
+    m: usize,
+    k: usize,
+    c: usize,
+    d: usize,
+    r0: u64,
+) {
+    if m <= mem.len() && k <= macs.len() && c <= cache.len() && d <= dir.len() {
+        lent(
+            &mut mem[0..m],
+            &mut macs[0..k],
+            &mut cache[0..c],
+            &mut dir[0..d],
+            r0,
+        );
     }
-    if k > macs.len() {
-        return;
-    }
-    if c > cache.len() {
-        return;
-    }
-    if d > dir.len() {
-        return;
-    }
-    lent(
-        &mut mem[..m],
-        &mut macs[..k],
-        &mut cache[..c],
-        &mut dir[..d],
-        r0,
-    );
 }
 
 // Run of 1 on a memory of m bytes, k bytes of MACs, c data bytes and d slots.
@@ -99,15 +87,9 @@ fn sized(name: &[u8], m: usize, k: usize, c: usize, d: usize, r0: u64) {
     let mut macs = [0x5au8; 16400];
     let mut cache = [0x5au8; 4160];
     let mut dir = [0u32; 65];
-    let p = Parts {
-        mem: m,
-        macs: k,
-        cache: c,
-        dir: d,
-    };
     say::text(name);
     say::text(b": ");
-    cut(&mut mem, &mut macs, &mut cache, &mut dir, p, r0);
+    cut(&mut mem, &mut macs, &mut cache, &mut dir, m, k, c, d, r0);
 }
 
 // 101: M.
