@@ -38,7 +38,7 @@ fn locks() {
     );
 }
 
-// Fault 2: active mode needed.
+// Fault 2: keys and CEM_Buffer.
 fn inactive() {
     story::one(
         0,
@@ -63,6 +63,10 @@ fn inactive() {
         0,
         0,
     );
+}
+
+// Fault 2: the thread and protected lines.
+fn inactive_thread() {
     story::one(
         2,
         b"fault 2: end_cem, suspended",
@@ -228,6 +232,7 @@ pub(crate) fn all() {
     say::text(b"\nFaults\n");
     locks();
     inactive();
+    inactive_thread();
     active();
     listed();
     addresses();
