@@ -4,6 +4,6 @@ mod coding;
 pub mod errors;
 pub mod laying;
 pub mod names;
-mod number;
+pub mod number;
 mod shape;
 pub mod statement;

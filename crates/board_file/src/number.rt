@@ -126,7 +126,7 @@ fn after_zero(word: &[u8]) -> Number
 }
 
 // The number that a word says.
-pub(crate) fn read(word: &[u8]) -> Number
+pub fn read(word: &[u8]) -> Number
     ensures { λ r. ⌜ (r .error ≡ 0 → r .value ≡ numberOf (now (word .entry))) ⌝ }
 {
     if word.len() < 2 {
