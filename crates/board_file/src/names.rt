@@ -47,9 +47,9 @@ pub const LIST: usize = 20;
 
 pub const INSTRUCTION: usize = 64;
 
-pub const UNKNOWN: usize = 200;
+pub const UNKNOWN: usize = 21;
 
-pub const NOTHING: usize = 201;
+pub const NOTHING: usize = 22;
 
 // Letter i of a word, a blank past its end.
 fn letter(word: &[u8], i: usize) -> u8 {
@@ -108,7 +108,7 @@ fn opcode(word: &[u8]) -> usize {
 // The number of a statement or of an instruction by its first word.
 pub(crate) fn kind_of(word: &[u8]) -> usize {
     let k = statement(word);
-    if k < 21 {
+    if k < UNKNOWN {
         return k;
     }
     let op = opcode(word);
