@@ -89,6 +89,14 @@ pub(crate) fn tag(fd: i32, n: u32) {
     write_line(fd, names, n as u64);
 }
 
+// Writes how the sheet of a third run was made.
+pub(crate) fn kept_heading(fd: i32) {
+    io::write_all(
+        fd,
+        b"KEPT SHEET: the same run a third time, with the cache as the warm run left it",
+    );
+}
+
 // Writes how a sheet was made, and which it is.
 pub(crate) fn heading(fd: i32, warm: bool) {
     if warm {
@@ -104,11 +112,15 @@ pub(crate) fn heading(fd: i32, warm: bool) {
     );
 }
 
-// Writes which sheet a row is of.
-pub(crate) fn sheet(fd: i32, warm: bool) {
-    if warm {
-        io::write_all(fd, b"warm");
+// Writes which sheet a row is of, by the sheet and by its run, the first, the second or the third.
+pub(crate) fn sheet(fd: i32, warm: bool, run: u64) {
+    if !warm {
+        io::write_all(fd, b"cold");
         return;
     }
-    io::write_all(fd, b"cold");
+    if run == 3 {
+        io::write_all(fd, b"kept");
+        return;
+    }
+    io::write_all(fd, b"warm");
 }

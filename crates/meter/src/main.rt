@@ -12,6 +12,7 @@ use board_file::board;
 use board_file::board::Board;
 use host::answer::Report;
 use libc::STDERR_FILENO;
+use libc::STDOUT_FILENO;
 use options::Options;
 use sheets::running::Sheets;
 ghost use Rattle.board_file.specs.Boards.{Within};
@@ -60,12 +61,12 @@ fn line_to_drop(o: Options) -> u64 {
     0xffff_ffff
 }
 
-// Says that a line was dropped, where it was, and ends the line.
+// Says that a line was dropped, where it was, and ends the heading.
 fn say_dropped(o: Options, dropped: Report) {
     if o.drop {
-        out::text(b", BUT FOR LINE ");
+        out::text(b" but for line ");
         out::number(o.line);
-        out::text(b" DROPPED: ");
+        out::text(b", dropped before it\ndrop: ");
         return printing::report(dropped);
     }
     out::text(b"\n");
@@ -83,9 +84,9 @@ fn third(text: &[u8], b: Board, o: Options)
         rows::header();
         return rows::row(3, b.slots, sheet);
     }
-    out::text(b"ONCE MORE, THE CACHE KEPT");
+    book::kept_heading(STDOUT_FILENO);
     say_dropped(o, dropped);
-    printing::sheet(b, sheet);
+    printing::body(b, sheet);
 }
 
 // Prints what is asked for of a board.

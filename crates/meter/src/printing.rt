@@ -101,11 +101,16 @@ fn board(b: Board) {
 
 // A sheet: how it was made, its figures and its slots.
 pub(crate) fn sheet(b: Board, s: Sheet) {
+    book::heading(STDOUT_FILENO, s.warm);
+    body(b, s);
+}
+
+// A sheet below its heading: its figures and its slots.
+pub(crate) fn body(b: Board, s: Sheet) {
     let x = s.report;
     let k = x.counts;
     let by = s.kinds;
     let numbers = s.slots;
-    book::heading(STDOUT_FILENO, s.warm);
     board(b);
     ending(x);
     figures(k, by);

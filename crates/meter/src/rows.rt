@@ -42,7 +42,7 @@ pub(crate) fn row(run: u64, slots: usize, s: Sheet) {
     let by = s.kinds;
     out::number(run);
     out::text(b",");
-    book::sheet(STDOUT_FILENO, s.warm);
+    book::sheet(STDOUT_FILENO, s.warm, run);
     out::comma(slots as u64);
     out::comma(x.steps);
     out::comma(x.answer);
@@ -60,7 +60,7 @@ pub(crate) fn slot_header() {
 fn slot(run: u64, warm: bool, i: u64, x: LineRecord) {
     out::number(run);
     out::text(b",");
-    book::sheet(STDOUT_FILENO, warm);
+    book::sheet(STDOUT_FILENO, warm, run);
     out::comma(i);
     out::comma(x.used as u64);
     out::comma(x.line as u64);
