@@ -10,7 +10,8 @@ ghost use mathlib.Core.Path.{_≡_};
 ghost use mathlib.Core.List.{[]};
 ghost use mathlib.Core.Bool.{true, false};
 ghost use Rattle.cache.specs.Lent.{countsIn};
-ghost use Rattle.host.specs.Outcome.{machineOf, Gives};
+ghost use Rattle.host.specs.Outcome.{machineOf, resultOf, Gives};
+ghost use Rattle.instructions.specs.Calls.{run};
 ghost use Rattle.sheets.specs.Runs.{coldRun, warmRun, againOf};
 ghost use Rattle.sheets.specs.Says.{Says};
 
@@ -18,6 +19,12 @@ ghost use Rattle.sheets.specs.Says.{Says};
 pub struct Sheets {
     pub cold: Sheet,
     pub warm: Sheet,
+    pub processor: Processor,
+}
+
+// The sheet of one run more, and the record that it left.
+pub struct Kept {
+    pub sheet: Sheet,
     pub processor: Processor,
 }
 
@@ -37,7 +44,7 @@ fn cold(
 }
 
 // The record to start from again, with DRK and SRH as the run before left them.
-fn again(p: Processor, left: Processor) -> Processor
+pub fn again(p: Processor, left: Processor) -> Processor
     ensures { λ r. ⌜ r ≡ againOf p left ⌝ }
 {
     let r = p.r;
@@ -96,6 +103,28 @@ pub fn both(
     Sheets {
         cold: empty_start,
         warm: kept_start,
+        processor,
+    }
+}
+
+// A run of n instructions with the cache as it is lent, and its sheet.
+pub fn once_more(
+    p: Processor,
+    mem: &mut [u8],
+    macs: &mut [u8],
+    cache: &mut [u8],
+    dir: &mut [u32],
+    n: u64,
+) -> Kept
+    ensures { λ r. ⌜ Says true (resultOf (run n) (machineOf p (now (mem .entry)) (now (macs .entry)) (now (cache .entry)) (now (dir .entry)))) (r .sheet) ⌝ }
+    ensures { λ r. ⌜ machineOf (r .processor) (now (mem .exit)) (now (macs .exit)) (now (cache .exit)) (now (dir .exit)) ≡ resultOf (run n) (machineOf p (now (mem .entry)) (now (macs .entry)) (now (cache .entry)) (now (dir .entry))) .machine ⌝ }
+{
+    let x = calls::run(p, mem, macs, cache, dir, n);
+    let report = x.report;
+    let processor = x.processor;
+    let filled = sheet::filled_in(true, report, dir);
+    Kept {
+        sheet: filled,
         processor,
     }
 }

@@ -1,0 +1,2 @@
+-- The laws of a board file, file by file.
+pub mod DigitLaws

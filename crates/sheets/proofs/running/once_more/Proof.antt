@@ -1,0 +1,26 @@
+-- `sheets::running::once_more` meets its promise.
+use Rattle.host.specs.Outcome.{Leaves}
+use Rattle.sheets.proofs.Saying.{orderly-counts, says}
+use mathlib.Core.Bool.{true}
+use borrow.Author.Needs.{needs}
+use Rattle.sheets.proofs.running.once_more.Statement.{statement}
+use Rattle.sheets.proofs.running.once_more.Tie as tie
+
+filled-in-requires : tie.Need-filled-in-requires
+unfolding Leaves
+filled-in-requires c κs = orderly-counts (c .before .before .before .before .before .before .before .before .before .before .before .run .ensures)
+
+returns : tie.Need-returns
+unfolding Leaves
+returns c = (says (c .before .before .before .before .before .before .before .before .before .before .before .before .run .ensures) true _ (c .filled-in .ensures), c .before .before .before .before .before .before .before .before .before .before .before .before .run .ensures .left)
+
+pub once-more-spec : {M : Type 1} → statement M
+once-more-spec =
+    tie.close
+    (tie.spec (λ c κs. search needs)
+    filled-in-requires
+    (λ c. search needs)
+    (λ c. search needs)
+    (λ c. search needs)
+    (λ c. search needs)
+    returns)
