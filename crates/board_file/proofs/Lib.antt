@@ -1,2 +1,3 @@
 -- The laws of a board file, file by file.
 pub mod DigitLaws
+pub mod WordLaws

@@ -1,5 +1,8 @@
 // Instruction words made of an opcode and its operands.
 use crate::errors;
+ghost use mathlib.Core.Path.{_≡_};
+ghost use Prim.Native.Nat.{_%_};
+ghost use Rattle.board_file.specs.Words.{Fields, Named};
 
 // A word of 32 bits, and an error or 0.
 pub struct Coded {
@@ -8,7 +11,9 @@ pub struct Coded {
 }
 
 // The fields of document 01 in their places: opcode, a, b and the low 16 bits.
-fn packed(op: u64, a: u64, b: u64, low: u64) -> Coded {
+fn packed(op: u64, a: u64, b: u64, low: u64) -> Coded
+    ensures { λ r. ⌜ Fields (op % 64) (a % 32) (b % 32) (low % 65536) (r .word) ⌝ }
+{
     Coded {
         word: op % 64 * 0x400_0000 + a % 32 * 0x20_0000 + b % 32 * 0x1_0000 + low % 0x1_0000,
         error: 0,
@@ -16,7 +21,9 @@ fn packed(op: u64, a: u64, b: u64, low: u64) -> Coded {
 }
 
 // A word with an immediate of 16 bits, from -32768 to 32767.
-fn with_immediate(op: u64, a: u64, b: u64, imm: u64) -> Coded {
+fn with_immediate(op: u64, a: u64, b: u64, imm: u64) -> Coded
+    ensures { λ r. ⌜ (r .error ≡ 0 → Fields (op % 64) (a % 32) (b % 32) (imm % 65536) (r .word)) ⌝ }
+{
     if 0x7fff < imm {
         if imm < 0xffff_ffff_ffff_8000 {
             return Coded {
@@ -29,7 +36,9 @@ fn with_immediate(op: u64, a: u64, b: u64, imm: u64) -> Coded {
 }
 
 // A word with a selector of three bits.
-fn with_selector(op: u64, a: u64, b: u64, sel: u64) -> Coded {
+fn with_selector(op: u64, a: u64, b: u64, sel: u64) -> Coded
+    ensures { λ r. ⌜ (r .error ≡ 0 → Fields (op % 64) (a % 32) (b % 32) (sel % 65536) (r .word)) ⌝ }
+{
     if 7 < sel {
         return Coded {
             word: 0,
@@ -40,7 +49,9 @@ fn with_selector(op: u64, a: u64, b: u64, sel: u64) -> Coded {
 }
 
 // The word of an opcode with its operands in the order in which a board file has them.
-pub(crate) fn encode(op: usize, x: u64, y: u64, z: u64) -> Coded {
+pub(crate) fn encode(op: usize, x: u64, y: u64, z: u64) -> Coded
+    ensures { λ r. ⌜ (r .error ≡ 0 → Named (op % 64) (x % 32) (r .word)) ⌝ }
+{
     let code = op as u64;
     match op {
         1 | 2 | 3 | 4 | 5 => packed(code, x, y, z % 32 * 0x800),

@@ -1,1 +1,0 @@
--- The proofs of the meter stand with its functions.
