@@ -11,7 +11,7 @@ use Rattle.lists.specs.If.{if}
 use Rattle.lists.specs.Bytes.{zeros}
 use Rattle.lists.specs.Parts.{putAt}
 use Rattle.lists.proofs.PartLaws.{put-put}
-use Rattle.model.specs.Tags.{isData}
+use Rattle.model.specs.Tags.{isData, tagNamed}
 use Rattle.model.specs.Lines.{lineAt, putLine, stored}
 use Rattle.model.specs.Log.{Note, Counts, noCounts, countsOf}
 use Rattle.model.specs.Cached.{Cached, evictPlace}
@@ -24,7 +24,7 @@ use Rattle.directory.proofs.DirectLaws.{direct-laws}
 use Rattle.sealing.specs.Lines.{drkOf}
 use Rattle.ciphers.specs.Cipher.{aesCipher}
 use Rattle.ciphers.proofs.Laws.{aesLaws}
-use Rattle.cache.specs.Lent.{lent, tagNamed, Fit}
+use Rattle.cache.specs.Lent.{lent, Fit}
 use Rattle.cache.specs.Does.{Does, WrittenBack}
 
 -- in a fit memory a line, its MAC entry and a slot lie within their buffers

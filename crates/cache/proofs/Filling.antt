@@ -6,7 +6,7 @@ use mathlib.Core.Bool.{Bool, true, false}
 use mathlib.Core.List.{List, [], _∷_}
 use lib.ListN.{length, set}
 use Rattle.lists.specs.Bytes.{zeros}
-use Rattle.model.specs.Tags.{tagNumber}
+use Rattle.model.specs.Tags.{tagNumber, tagNamed}
 use Rattle.model.specs.Lines.{lineAt, putLine, macAt, passes, seen}
 use Rattle.model.specs.Placement.{holding}
 use Rattle.model.specs.Cached.{Cached, fillPlace}
@@ -16,7 +16,7 @@ use Rattle.directory.specs.Numbers.{numberOf}
 use Rattle.directory.specs.Direct.{direct}
 use Rattle.sealing.specs.Lines.{drkOf}
 use Rattle.ciphers.specs.Cipher.{aesCipher}
-use Rattle.cache.specs.Lent.{lent, tagNamed}
+use Rattle.cache.specs.Lent.{lent}
 use Rattle.cache.specs.Does.{Does, fillCounts}
 use Rattle.cache.proofs.Tagged.{number-named}
 

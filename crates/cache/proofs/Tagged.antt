@@ -11,12 +11,11 @@ use Rattle.lists.specs.If.{if}
 use Rattle.lists.specs.Parts.{partAt, putAt}
 use Rattle.lists.proofs.Cases.{by-eq}
 use Rattle.lists.proofs.PartLaws.{put-part, part-put, put-put, length-part}
-use Rattle.model.specs.Tags.{Tag, noTag, secureInstruction, secureData, tagNumber, isData, isChecked}
+use Rattle.model.specs.Tags.{Tag, noTag, secureInstruction, secureData, tagNumber, isData, isChecked, tagNamed}
 use Rattle.model.specs.Lines.{lineAt, putLine, macAt, putMac, passes, seen, stored, signed}
 use Rattle.sealing.specs.Lines.{enciphered, deciphered, dataMac}
 use Rattle.ciphers.specs.Cipher.{aesCipher}
 use Rattle.ciphers.proofs.Laws.{aesLaws}
-use Rattle.cache.specs.Lent.{tagNamed}
 use Rattle.cache.specs.Does.{WrittenBack}
 
 pub named-code : (t : ℕ) → t ≡ 1 → tagNamed t ≡ secureInstruction

@@ -1,10 +1,7 @@
--- How the code's values are read: the lent buffers with the key as a cached memory, the four counts, the number of a tag.
+-- How the code's values are read: the lent buffers with the key as a cached memory, the four counts.
 use Prim.Native.Nat.{ℕ, _/_}
 use mathlib.Core.List.{List}
 use lib.ListN.{length}
-use lib.Dec.{eqb}
-use Rattle.lists.specs.If.{if}
-use Rattle.model.specs.Tags.{Tag, noTag, secureInstruction, secureData}
 use Rattle.model.specs.Log as log
 use Rattle.model.specs.Cached.{Cached}
 use Rattle.directory.specs.Direct.{direct}
@@ -20,10 +17,6 @@ lent hi lo mem macs cache dir = record { key = drkOf hi lo; mem = mem; macs = ma
 -- the four counts
 abbrev pub countsIn : Counts → log.Counts
 countsIn k = record { filled = k .filled; written = k .written; checked = k .checked; made = k .made }
-
--- the tag of a number: 1 Secure Instruction, 2 Secure Data, any other none
-unfoldable pub tagNamed : ℕ → Tag
-tagNamed t = if (eqb t 1) secureInstruction (if (eqb t 2) secureData noTag)
 
 -- what refusals 101 to 104 let pass
 abbrev pub Fit : Cached → Type 0

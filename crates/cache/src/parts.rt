@@ -4,11 +4,10 @@ ghost use Prim.Native.Nat.{_+_, _*_, _≤_};
 ghost use lib.ListN.{length};
 ghost use Rattle.lists.specs.Parts.{putAt};
 ghost use Rattle.lists.specs.Bytes.{zeros, same};
-ghost use Rattle.model.specs.Tags.{secureInstruction, secureData};
+ghost use Rattle.model.specs.Tags.{secureInstruction, secureData, tagNamed};
 ghost use Rattle.model.specs.Lines.{lineAt, putLine, macAt, putMac, passes, seen};
 ghost use Rattle.sealing.specs.Lines.{drkOf, enciphered, deciphered, dataMac};
 ghost use Rattle.ciphers.specs.Cipher.{aesCipher};
-ghost use Rattle.cache.specs.Lent.{tagNamed};
 ghost use Rattle.cache.specs.Does.{WrittenBack};
 
 // Bytes put over those from place a on.

@@ -6,13 +6,13 @@ ghost use Prim.Native.Nat.{_*_, _<_, _≤_, _/_, _^_};
 ghost use lib.ListN.{length, set};
 ghost use Rattle.lists.specs.Bytes.{zeros};
 ghost use Rattle.lists.specs.If.{if};
-ghost use Rattle.model.specs.Tags.{isData, isChecked};
+ghost use Rattle.model.specs.Tags.{isData, isChecked, tagNamed};
 ghost use Rattle.model.specs.Lines.{putLine};
 ghost use Rattle.model.specs.Log.{plus, noCounts};
 ghost use Rattle.model.specs.Cached.{evictPlace, fillPlace, thenDo};
 ghost use Rattle.directory.specs.Direct.{direct};
 ghost use Rattle.ciphers.specs.Cipher.{aesCipher};
-ghost use Rattle.cache.specs.Lent.{lent, countsIn, tagNamed, Fit};
+ghost use Rattle.cache.specs.Lent.{lent, countsIn, Fit};
 ghost use Rattle.cache.specs.Does.{Does, fillCounts};
 
 // Lines filled, dirty lines written, MACs checked, MACs made for lines.

@@ -8,7 +8,7 @@ use lib.ListN.{length}
 use Rattle.lists.specs.Bytes.{Bytes, zeros}
 use Rattle.model.specs.CipherLaws.{Sized}
 use Rattle.instructions.specs.Board.{documentBoard}
-use Rattle.instructions.specs.Record.{reset}
+use Rattle.instructions.specs.Record.{Processor, reset}
 use Rattle.instructions.specs.Refusals.{sizeFine}
 use Rattle.instructions.specs.Calls.{Call}
 use Rattle.instructions.specs.Marked.{Marked}
@@ -19,12 +19,12 @@ use Rattle.ciphers.specs.Cipher.{aesCipher}
 -- every sequence of calls, a cache changes the counts and nothing else.
 abbrev pub Demand3 : Type 0
 Demand3 =
-    (drk mem macs srh : List ℕ) (C : ℕ)
+    (drk mem macs : List ℕ) (before : Processor) (C : ℕ)
     → Sized 16 drk → Bytes mem → sizeFine (length mem) ≡ true → length macs ≡ length mem / 4 → 1 ≤ C → C ≤ 64
     → (calls : List Call) → LentBytes calls
     → AlwaysSame documentBoard aesCipher calls
-    (record { processor = reset documentBoard srh; memory = record { key = drk; mem = mem; macs = macs } })
-    (record { processor = reset documentBoard srh; memory = record { key = drk; mem = mem; macs = macs; cache = zeros (C * 64); dir = zeros C } })
+    (record { processor = reset documentBoard before; memory = record { key = drk; mem = mem; macs = macs } })
+    (record { processor = reset documentBoard before; memory = record { key = drk; mem = mem; macs = macs; cache = zeros (C * 64); dir = zeros C } })
 
 -- The marked cases P1 to P12, as one list.
 abbrev pub MarkedCases : Type 0

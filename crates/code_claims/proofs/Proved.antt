@@ -20,6 +20,7 @@ use Rattle.demand3.specs.Statement as meaning
 use Rattle.demand3.specs.Statement.{writtenBack, withCache, withoutCache, SameOutside}
 use Rattle.demand3.proofs.Document.{demand3-from-reset}
 use Rattle.cache.specs.Lent.{countsIn}
+use Rattle.registers.specs.Map.{processorOf}
 use Rattle.host.specs.declared.answer.Report.{Report}
 use Rattle.host.specs.Outcome.{resultOf, Gives, Leaves, clearedOf}
 use Rattle.code_claims.specs.Claim.{Lent, machineIn, Made, Session, ended, andThen, beside, Same, AlwaysSame, none, next, fromReset, Demand3AtTheCode}
@@ -70,4 +71,4 @@ drk-sized hi lo =
 pub a-cache-changes-the-counts-and-nothing-else : Demand3AtTheCode
 unfolding reset documentBoard asItStands zeros
 a-cache-changes-the-counts-and-nothing-else p mem macs C b z e lo hi calls bs session =
-    all-same calls _ session _ (demand3-from-reset aesCipher aesLaws _ mem macs _ C (drk-sized (p .special .drkhi) (p .special .drklo)) b z e lo hi calls bs)
+    all-same calls _ session _ (demand3-from-reset aesCipher aesLaws _ mem macs (processorOf (p .r) (p .special)) C (drk-sized (p .special .drkhi) (p .special .drklo)) b z e lo hi calls bs)

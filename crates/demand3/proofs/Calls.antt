@@ -110,11 +110,11 @@ module _ (B : Board) (BL : BoardLaws B) (c : Cipher) (CL : CipherLaws c) (N C : 
   accepted-alike writeBackAll u s b z G =
       asked-alike _ writeBack (u .processor) (s .processor) (λ reply. []) (u .memory) (s .memory) fair-writeBack (G .processors) (G .memories)
   accepted-alike reboot u s b z G =
-      asked-alike _ writeBack (reset B (u .processor .cem .srh)) (reset B (s .processor .cem .srh)) (λ reply. []) (u .memory) (s .memory) fair-writeBack
-      (ap (λ (r : Processor). reset B (r .cem .srh)) (G .processors)) (G .memories)
+      asked-alike _ writeBack (reset B (u .processor)) (reset B (s .processor)) (λ reply. []) (u .memory) (s .memory) fair-writeBack
+      (ap (reset B) (G .processors)) (G .memories)
   accepted-alike powerCut u s b z G =
-      changed-alike (reset B (u .processor .cem .srh)) (reset B (s .processor .cem .srh)) (asItStands (loseAll (B .placement) (s .memory))) (loseAll (B .placement) (s .memory))
-      (ap (λ (r : Processor). reset B (r .cem .srh)) (G .processors))
+      changed-alike (reset B (u .processor)) (reset B (s .processor)) (asItStands (loseAll (B .placement) (s .memory))) (loseAll (B .placement) (s .memory))
+      (ap (reset B) (G .processors))
       (cut-agrees c CL (B .placement) (BL .placement) N C (s .memory) (proper c CL (B .placement) (BL .placement) N C (u .memory) (s .memory) (G .memories)))
 
   -- the refusals for what is lent: neither 103 nor 104 applies to a memory that agrees

@@ -50,8 +50,8 @@ fresh-accepted s C p q z e lo hi =
 
 pub demand3-from-reset : Demand3FromReset
 unfolding asItStands
-demand3-from-reset c CL drk mem macs srh C k b z e lo hi calls bs =
+demand3-from-reset c CL drk mem macs before C k b z e lo hi calls bs =
     let s : Cached = record { key = drk; mem = mem; macs = macs; cache = zeros (C * 64); dir = zeros C } in
     demand3 documentBoard document-laws c CL s
     (record { accepted = fresh-accepted s C refl refl z e lo hi; bytes = b; key = k; empty = document-empty C })
-    (reset documentBoard srh) calls bs
+    (reset documentBoard before) calls bs

@@ -80,12 +80,12 @@ Demand3 =
 -- Demand 3 for the board of document 01, from reset with an empty cache: any M, C, memory, MAC area, DRK and SRH
 abbrev pub Demand3FromReset : Type 0
 Demand3FromReset =
-    (c : Cipher) → CipherLaws c → (drk mem macs srh : List ℕ) (C : ℕ)
+    (c : Cipher) → CipherLaws c → (drk mem macs : List ℕ) (before : Processor) (C : ℕ)
     → Sized 16 drk → Bytes mem → sizeFine (length mem) ≡ true → length macs ≡ length mem / 4 → 1 ≤ C → C ≤ 64
     → (calls : List Call) → LentBytes calls
     → AlwaysSame documentBoard c calls
-    (record { processor = reset documentBoard srh; memory = record { key = drk; mem = mem; macs = macs } })
-    (record { processor = reset documentBoard srh; memory = record { key = drk; mem = mem; macs = macs; cache = zeros (C * 64); dir = zeros C } })
+    (record { processor = reset documentBoard before; memory = record { key = drk; mem = mem; macs = macs } })
+    (record { processor = reset documentBoard before; memory = record { key = drk; mem = mem; macs = macs; cache = zeros (C * 64); dir = zeros C } })
 
 -- whatever was lent, as far as it is accepted and made of bytes: behind a reboot one can start
 abbrev pub RebootStarts : Type 1

@@ -126,13 +126,13 @@ held {mem = mem} {macs = macs} {cache = cache} {dir = dir} q h =
 -- reboot: everything is written back, and the record is cleared
 pub reboot-gives : (p : code.Processor) {p′ : code.Processor} {mem macs cache dir : List ℕ} (s : Cached) {k : Counts} → p′ ≡ clearedOf p
     → Does (evictAll aesCipher direct s) true k (machineOf p mem macs cache dir .memory)
-    → Gives (asked (cachedSetup documentBoard aesCipher) writeBack (reset documentBoard (machineOf p [] [] [] [] .processor .cem .srh)) (λ reply. []) s) 0 0 k [] (machineOf p′ mem macs cache dir)
+    → Gives (asked (cachedSetup documentBoard aesCipher) writeBack (reset documentBoard (machineOf p [] [] [] [] .processor)) (λ reply. []) s) 0 0 k [] (machineOf p′ mem macs cache dir)
 unfolding reset documentBoard zeros
-reboot-gives p s e d = rw e (asked-gives writeBack (reset documentBoard (machineOf p [] [] [] [] .processor .cem .srh)) (λ reply. []) (flush-handles d))
+reboot-gives p s e d = rw e (asked-gives writeBack (reset documentBoard (machineOf p [] [] [] [] .processor)) (λ reply. []) (flush-handles d))
 
 -- a power cut: every slot is lost, and the record is cleared
 pub cut-gives : (p : code.Processor) {p′ : code.Processor} (mem macs : List ℕ) {cache dir cache′ dir′ : List ℕ} {k : Counts} → p′ ≡ clearedOf p → LosesAll cache dir cache′ dir′ → k ≡ noCounts
-    → Gives (changed (reset documentBoard (machineOf p [] [] [] [] .processor .cem .srh)) (loseAll direct (machineOf p mem macs cache dir .memory))) 0 0 k [] (machineOf p′ mem macs cache′ dir′)
+    → Gives (changed (reset documentBoard (machineOf p [] [] [] [] .processor)) (loseAll direct (machineOf p mem macs cache dir .memory))) 0 0 k [] (machineOf p′ mem macs cache′ dir′)
 unfolding reset documentBoard zeros
 cut-gives p mem macs e l none =
-    rw e (changed-gives _ _ none (ap (λ (s : Cached). record { processor = reset documentBoard (machineOf p [] [] [] [] .processor .cem .srh); memory = s }) (l .left _ mem macs)))
+    rw e (changed-gives _ _ none (ap (λ (s : Cached). record { processor = reset documentBoard (machineOf p [] [] [] [] .processor); memory = s }) (l .left _ mem macs)))

@@ -94,6 +94,6 @@ module _ (B : Board) (c : Cipher) (key : List ℕ) (r : Processor) (S : Sane r) 
       (λ h. rw h (by-test (eqb (opcode w) 16) (λ k. rw k sane-returned) (λ k. rw k (sane-executed w (data′ .number)))))
       (λ h. rw h (sane-entered fault))
 
-pub sane-reset : (B : Board) (srh : List ℕ) → Sane (reset B srh)
+pub sane-reset : (B : Board) (r : Processor) → Sane (reset B r)
 unfolding reset reg
-sane-reset B srh = record { zeroth = getD-zeros 32 0 (omega arith); mode = omega arith }
+sane-reset B r = record { zeroth = getD-zeros 32 0 (omega arith); mode = omega arith }

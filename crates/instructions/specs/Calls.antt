@@ -142,8 +142,8 @@ module _ {S : Type 0} (B : Board) (c : Cipher) (H : Setup S) where
   accepted (busMac n x) m = asked H (Request.busMac n x) (m .processor) (λ reply. x) (m .memory)
   accepted (evictLine n) m = asked H (evict n) (m .processor) (λ reply. []) (m .memory)
   accepted writeBackAll m = asked H writeBack (m .processor) (λ reply. []) (m .memory)
-  accepted reboot m = asked H writeBack (reset B (m .processor .cem .srh)) (λ reply. []) (m .memory)
-  accepted powerCut m = changed (reset B (m .processor .cem .srh)) (H .memory .cut (m .memory))
+  accepted reboot m = asked H writeBack (reset B (m .processor)) (λ reply. []) (m .memory)
+  accepted powerCut m = changed (reset B (m .processor)) (H .memory .cut (m .memory))
 
   -- a machine call of the host
   unfoldable pub called : Call → Machine S → Result S

@@ -60,9 +60,9 @@ withThread regs pc mode saved r =
 unfoldable pub active : Processor → Bool
 active r = eqb (r .cem .mode) 1
 
--- a record as reboot and power cut leave it: everything zero but the SRH (and the DRK), mode 0
-unfoldable pub reset : Board → List ℕ → Processor
-reset B srh =
+-- what reboot and power cut leave of a record: everything zero but the SRH (and the DRK), mode 0
+unfoldable pub reset : Board → Processor → Processor
+reset B r =
     record {
       regs = zeros 32;
       pc = 0;
@@ -70,7 +70,14 @@ reset B srh =
       cause = 0;
       pid = 0;
       cid = 0;
-      cem = record { mode = 0; lock = false; srh = srh; buffer = zeros (32 / B .wordBytes); saved = record { hash = zeros 16; address = 0; pid = 0; cid = 0 } };
+      cem =
+          record {
+            mode = 0;
+            lock = false;
+            srh = r .cem .srh;
+            buffer = zeros (32 / B .wordBytes);
+            saved = record { hash = zeros 16; address = 0; pid = 0; cid = 0 };
+          };
     }
 
 -- a record that refusal 105 lets pass: R0 is zero and the mode is at most 2

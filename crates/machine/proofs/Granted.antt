@@ -11,7 +11,7 @@ use Rattle.lists.specs.If.{if}
 use Rattle.lists.specs.Parts.{partAt, putAt}
 use Rattle.lists.specs.Words.{little, littleBytes}
 use Rattle.lists.proofs.PartLaws.{part-part}
-use Rattle.model.specs.Tags.{Tag, noTag, secureInstruction}
+use Rattle.model.specs.Tags.{Tag, noTag, secureInstruction, tagNamed}
 use Rattle.model.specs.Lines.{lineAt, putLine}
 use Rattle.model.specs.Log.{Note, Counts, noCounts, countsOf}
 use Rattle.model.specs.Placement.{holding}
@@ -23,7 +23,7 @@ use Rattle.directory.specs.Direct.{direct}
 use Rattle.instructions.specs.Wishes.{Wish, idle, word, newKey, grant, gotFrom}
 use Rattle.sealing.specs.Lines.{drkOf}
 use Rattle.ciphers.specs.Cipher.{aesCipher}
-use Rattle.cache.specs.Lent.{tagNamed, Fit}
+use Rattle.cache.specs.Lent.{Fit}
 use Rattle.cache.specs.Does.{Does}
 use Rattle.cache.proofs.Filling.{dirty-number}
 use Rattle.cache.proofs.Dropping.{own-slot}

@@ -9,13 +9,13 @@ use lib.Dec.{eqb, leb, ltb}
 use borrow.Author.Tests.{eq-eqb, ne-eqb, eqb-true, leb-true}
 use Rattle.lists.specs.If.{if}
 use Rattle.lists.proofs.Cases.{by-eq, by-test, both-hold}
-use Rattle.model.specs.Tags.{Tag, noTag, secureInstruction, secureData, tagNumber, sameTag}
+use Rattle.model.specs.Tags.{Tag, noTag, secureInstruction, secureData, tagNumber, sameTag, tagNamed}
 use Rattle.model.specs.Cached.{Cached, serves}
 use Rattle.model.proofs.LineLaws.{sameTag-true}
 use Rattle.directory.specs.Numbers.{usedOf, lineOf, tagOf, dirtyOf, entryOf, isNumber}
 use Rattle.directory.specs.Direct.{fine}
 use Rattle.directory.proofs.DirectLaws.{direct-laws}
-use Rattle.cache.specs.Lent.{tagNamed, Fit}
+use Rattle.cache.specs.Lent.{Fit}
 use Rattle.cache.proofs.Tagged.{number-named, named-code, named-none}
 
 fine-tag : (N C p d : ℕ) → fine N C p d ≡ true → d / 2 % 4 ≤ 2

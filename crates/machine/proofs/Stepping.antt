@@ -9,7 +9,7 @@ use lib.Dec.{eqb}
 use borrow.Author.Tests.{eq-eqb, ne-eqb, eqb-true, eqb-false}
 use Rattle.lists.specs.If.{if}
 use Rattle.lists.proofs.Cases.{by-test, by-eq}
-use Rattle.model.specs.Tags.{Tag}
+use Rattle.model.specs.Tags.{Tag, tagNamed}
 use Rattle.model.specs.Log.{Counts, countsOf, plus}
 use Rattle.model.specs.Requests.{perform}
 use Rattle.model.specs.Cached.{Cached, cached, cachedHandle, accessPlace, readyPlace, writePlace, hitPlace, thenDo, evictPlace, fillPlace, serves}
@@ -30,7 +30,7 @@ use Rattle.sound.proofs.Programs.{FairWish, fair-word, fetch-fair, data-fair, g
 use Rattle.sound.proofs.Bounds.{any-within}
 use Rattle.ciphers.specs.Cipher.{aesCipher}
 use Rattle.ciphers.proofs.Laws.{aesLaws}
-use Rattle.cache.specs.Lent.{lent, tagNamed, Fit}
+use Rattle.cache.specs.Lent.{lent, Fit}
 use Rattle.cache.proofs.Following.{good-fit, Small}
 use Rattle.registers.specs.Map.{processorOf, keyOf}
 use Rattle.registers.specs.Wanted.{Decides, wishOf}

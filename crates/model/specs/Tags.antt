@@ -1,6 +1,8 @@
 -- How a line is looked at: as it stands, as signed code, or as sealed data.
 use Prim.Native.Nat.{ℕ}
 use mathlib.Core.Bool.{Bool, true, false}
+use lib.Dec.{eqb}
+use Rattle.lists.specs.If.{if}
 
 -- the tags of a line: none, Secure Instruction, Secure Data
 pub data Tag : Type 0 where
@@ -11,6 +13,10 @@ unfoldable pub tagNumber : Tag → ℕ
 tagNumber noTag = 0
 tagNumber secureInstruction = 1
 tagNumber secureData = 2
+
+-- the tag of a number: 1 Secure Instruction, 2 Secure Data, any other none
+unfoldable pub tagNamed : ℕ → Tag
+tagNamed t = if (eqb t 1) secureInstruction (if (eqb t 2) secureData noTag)
 
 -- is this the tag of a sealed line?
 unfoldable pub isData : Tag → Bool

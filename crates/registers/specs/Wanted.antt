@@ -5,7 +5,7 @@ use mathlib.Core.Bool.{Bool, true, false}
 use mathlib.Core.List.{List, [], _∷_}
 use lib.Dec.{eqb}
 use Rattle.lists.specs.If.{if}
-use Rattle.model.specs.Tags.{noTag, secureData}
+use Rattle.model.specs.Tags.{noTag, secureData, tagNamed}
 use Rattle.instructions.specs.Rules.{pick}
 use Rattle.instructions.specs.Board.{Board, documentBoard}
 use Rattle.instructions.specs.Fields.{opcode}
@@ -14,7 +14,6 @@ use Rattle.instructions.specs.Record.{Processor}
 use Rattle.instructions.specs.Wishes.{Wish, idle, word, newKey, Got}
 use Rattle.instructions.specs.Step.{knownFault, dataWish}
 use Rattle.sealing.specs.Lines.{drkOf}
-use Rattle.cache.specs.Lent.{tagNamed}
 use Rattle.registers.specs.declared.decide.Wanted.{Wanted}
 
 -- the data access of an instruction with nothing amiss

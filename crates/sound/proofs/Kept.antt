@@ -83,8 +83,8 @@ module _ (B : Board) (BL : BoardLaws B) (c : Cipher) (CL : CipherLaws c) (N C : 
   accepted-kept (evictLine n) m b z K =
       asked-kept (evict n) (m .processor) (λ reply. []) (m .memory) (fair-evict (line-in N (length (m .memory .mem)) n [] (K .good .mem) z .0)) (K .sane) (K .good)
   accepted-kept writeBackAll m b z K = asked-kept writeBack (m .processor) (λ reply. []) (m .memory) fair-writeBack (K .sane) (K .good)
-  accepted-kept reboot m b z K = asked-kept writeBack (reset B (m .processor .cem .srh)) (λ reply. []) (m .memory) fair-writeBack (sane-reset B (m .processor .cem .srh)) (K .good)
-  accepted-kept powerCut m b z K = record { good = cut-good c CL (B .placement) (BL .placement) N C (m .memory) (K .good); sane = sane-reset B (m .processor .cem .srh) }
+  accepted-kept reboot m b z K = asked-kept writeBack (reset B (m .processor)) (λ reply. []) (m .memory) fair-writeBack (sane-reset B (m .processor)) (K .good)
+  accepted-kept powerCut m b z K = record { good = cut-good c CL (B .placement) (BL .placement) N C (m .memory) (K .good); sane = sane-reset B (m .processor) }
 
   called-kept : (call : Call) (m : Machine Cached) → Bytes (bufferOf call) → Kept m → Kept (called B c (cachedSetup B c) call m .machine)
   unfolding called refused cachedSetup cached

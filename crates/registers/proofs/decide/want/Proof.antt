@@ -2,11 +2,11 @@
 use native.Mathlib.Omega.{arith}
 use mathlib.Core.Path.{refl, sym, _∙_}
 use borrow.Author.Tests.{ne-eqb}
+use Rattle.model.specs.Tags.{tagNamed}
 use Rattle.sealing.specs.Lines.{drkOf}
 use Rattle.instructions.specs.Record.{reg}
 use Rattle.instructions.specs.Operations.{Ra, Rb, keyFrom}
 use Rattle.instructions.specs.Board.{documentBoard}
-use Rattle.cache.specs.Lent.{tagNamed}
 use Rattle.registers.specs.Wanted.{wishOf}
 use borrow.Author.Needs.{needs}
 use Rattle.registers.proofs.decide.want.Statement.{statement}
