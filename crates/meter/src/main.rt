@@ -1,18 +1,19 @@
-// The meter: reads a board file and prints a cold and a warm sheet of its run, as text or CSV, for one cache or for several sizes, or the answers of its script.
-mod book;
-mod measuring;
+// The meter: reads a board file and prints a cold and a warm sheet of its run, as text or CSV, for one cache or for
+// several sizes, or the answers of its script.
 mod options;
-mod out;
-mod printing;
-mod rows;
 mod script;
-mod start;
+mod sizes;
 
 use board_file::board;
 use board_file::board::Board;
 use host::answer::Report;
 use libc::STDERR_FILENO;
 use libc::STDOUT_FILENO;
+use meter_pages::book;
+use meter_pages::out;
+use meter_pages::printing;
+use meter_pages::rows;
+use meter_runs::measuring;
 use options::Options;
 use sheets::running::Sheets;
 ghost use Rattle.board_file.specs.Boards.{Within};
@@ -32,7 +33,8 @@ fn refuse(path: &[u8], line: u64, error: u32) {
 fn usage() {
     io::write_all(
         STDERR_FILENO,
-        b"meter: the arguments are not understood\nusage: meter FILE [--csv] [--sizes] [--script] [--keep] [--drop LINE]\n",
+        b"meter: the arguments are not understood\n\
+        usage: meter FILE [--csv] [--sizes] [--script] [--keep] [--drop LINE]\n",
     );
 }
 
@@ -94,7 +96,7 @@ fn show(text: &[u8], b: Board, o: Options)
     requires { ⌜ Within b ⌝ }
 {
     if o.sizes {
-        return rows::sizes(text, b, o.csv);
+        return sizes::all(text, b, o.csv);
     }
     if o.script {
         return script::run(text, b);

@@ -1,7 +1,8 @@
 // What the program is asked for on its command line.
-use board_file::number;
+use board_text::number;
 
-// The file's place among the arguments (0: none yet), what is asked for, the line to drop, and whether an argument is wrong.
+// The file's place among the arguments (0: none yet), what is asked for, the line to drop, and whether an argument is
+// wrong.
 pub struct Options {
     pub path: usize,
     pub csv: bool,
