@@ -1,6 +1,5 @@
 // The meter: reads a board file and prints a cold and a warm sheet of its run, as text or CSV, for one cache or for
 // several sizes, or the answers of its script.
-mod options;
 mod script;
 mod sizes;
 
@@ -9,12 +8,11 @@ use board_file::board::Board;
 use host::answer::Report;
 use libc::STDERR_FILENO;
 use libc::STDOUT_FILENO;
+use meter_options::Options;
 use meter_pages::book;
 use meter_pages::out;
 use meter_pages::printing;
 use meter_pages::rows;
-use meter_runs::measuring;
-use options::Options;
 use sheets::running::Sheets;
 ghost use Rattle.board_file.specs.Boards.{Within};
 
@@ -78,7 +76,7 @@ fn say_dropped(o: Options, dropped: Report) {
 fn third(text: &[u8], b: Board, o: Options)
     requires { ⌜ Within b ⌝ }
 {
-    let x = measuring::third(text, b, line_to_drop(o));
+    let x = meter_runs::third(text, b, line_to_drop(o));
     let dropped = x.dropped;
     let sheet = x.sheet;
     if o.csv {
@@ -101,7 +99,7 @@ fn show(text: &[u8], b: Board, o: Options)
     if o.script {
         return script::run(text, b);
     }
-    both(b, measuring::both(text, b, b.slots), o.csv);
+    both(b, meter_runs::both(text, b, b.slots), o.csv);
     if o.keep {
         return third(text, b, o);
     }
@@ -116,7 +114,7 @@ fn measure(path: &[u8], text: &[u8], o: Options) {
     if b.error != 0 {
         return refuse(path, b.line, b.error);
     }
-    let l = measuring::laid(text, b);
+    let l = meter_runs::laid(text, b);
     if l.error != 0 {
         return refuse(path, l.line, l.error);
     }
@@ -143,7 +141,7 @@ fn file(path: &[u8], o: Options) {
 }
 
 fn main() {
-    let o = options::read();
+    let o = meter_options::read();
     if o.wrong {
         return usage();
     }

@@ -6,8 +6,6 @@ use board_text::statement::Statement;
 use laying::lines;
 use meter_pages::out;
 use meter_pages::printing;
-use meter_runs::measuring;
-use meter_runs::operations;
 use registers::record::Processor;
 ghost use Rattle.board_file.specs.Boards.{Within};
 
@@ -45,7 +43,7 @@ fn behind(
         printing::slots(dir);
         return p;
     }
-    let a = operations::done(s, p, mem, macs, cache, dir);
+    let a = script_operations::done(s, p, mem, macs, cache, dir);
     let x = a.report;
     let q = a.processor;
     out::text(b"    ");
@@ -86,7 +84,7 @@ fn run_on(
     dir: &mut [u32],
 ) {
     lines::load(text, b.drkhi, b.drklo, mem, macs);
-    session(text, measuring::start(b), mem, macs, cache, dir);
+    session(text, meter_runs::start(b), mem, macs, cache, dir);
 }
 
 // Does a board's script on memory laid anew, with an empty cache.

@@ -1,7 +1,6 @@
 // Cold beside warm over cache sizes: a table for people, or rows.
 use board_file::board::Board;
 use meter_pages::rows;
-use meter_runs::measuring;
 use sheets::running::Sheets;
 ghost use Rattle.board_file.specs.Boards.{Within};
 
@@ -32,7 +31,7 @@ pub(crate) fn all(text: &[u8], b: Board, csv: bool)
     }
     let mut slots: usize = 1;
     while slots < 65 {
-        size(slots, measuring::both(text, b, slots), csv);
+        size(slots, meter_runs::both(text, b, slots), csv);
         slots *= 2;
     }
 }

@@ -106,7 +106,7 @@ fn with_argument(o: Options, i: usize) -> Options {
 }
 
 // What all arguments ask for; a file is needed, and a line behind --drop.
-pub(crate) fn read() -> Options {
+pub fn read() -> Options {
     let n = os::arg_count();
     let mut o = none();
     let mut i: usize = 1;

@@ -3,8 +3,8 @@ use Prim.Native.Nat.{_≤_, _-_}
 use lib.ListN.{length}
 use mathlib.Core.Path.{_≡_}
 use borrow.Author.Needs.{needs}
-use Rattle.meter_runs.proofs.operations.bytes.Statement.{statement}
-use Rattle.meter_runs.proofs.operations.bytes.Tie as tie
+use Rattle.script_operations.proofs.bytes.Statement.{statement}
+use Rattle.script_operations.proofs.bytes.Tie as tie
 
 abbrev Inv-loop : tie.InvT-loop
 Inv-loop numbers r₀ i₀ r i = (i ≤ 64) × (length r ≡ 64)

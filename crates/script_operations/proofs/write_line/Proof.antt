@@ -2,8 +2,8 @@
 use Prim.Native.Nat.{_≤_, _-_}
 use lib.ListN.{length}
 use borrow.Author.Needs.{needs}
-use Rattle.meter_runs.proofs.operations.write_line.Statement.{statement}
-use Rattle.meter_runs.proofs.operations.write_line.Tie as tie
+use Rattle.script_operations.proofs.write_line.Statement.{statement}
+use Rattle.script_operations.proofs.write_line.Tie as tie
 
 abbrev Inv-loop : tie.InvT-loop
 Inv-loop line i₀ t4 i = i ≤ length line

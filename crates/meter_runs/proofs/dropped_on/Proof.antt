@@ -1,8 +1,8 @@
 -- `dropped_on` hands the buffers back with their lengths.
 use mathlib.Core.Path.{_∙_}
 use borrow.Author.Needs.{needs}
-use Rattle.meter_runs.proofs.measuring.dropped_on.Statement.{statement}
-use Rattle.meter_runs.proofs.measuring.dropped_on.Tie as tie
+use Rattle.meter_runs.proofs.dropped_on.Statement.{statement}
+use Rattle.meter_runs.proofs.dropped_on.Tie as tie
 
 same-length : tie.Need-same-length
 same-length c = c .before .before .before .before .before .before .before .before .before .once-more .kept .1 .0

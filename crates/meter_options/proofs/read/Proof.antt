@@ -1,8 +1,8 @@
 -- `read` ends: a turn for each argument.
 use Prim.Native.Nat.{_≤_, _-_}
 use borrow.Author.Needs.{needs}
-use Rattle.meter.proofs.options.read.Statement.{statement}
-use Rattle.meter.proofs.options.read.Tie as tie
+use Rattle.meter_options.proofs.read.Statement.{statement}
+use Rattle.meter_options.proofs.read.Tie as tie
 
 abbrev Inv-loop : tie.InvT-loop
 Inv-loop n o₀ i₀ o i = Unit
