@@ -23,14 +23,14 @@ use denote.Steps.{only, opens, closes, owned, peeks}
 use denote.Struct.Steps.{spelt}
 use denote.Struct.Laws as LL
 use Rattle.registers.specs.declared.record.Processor.{Processor}
-use Rattle.host.specs.declared.answer.Answer.{Answer}
-use Rattle.host.specs.declared.answer.Report.{Report}
+use Rattle.machine.specs.declared.answer.Answer.{Answer}
+use Rattle.machine.specs.declared.answer.Report.{Report}
 use Rattle.registers.proofs.record.Processor as P
 use Rattle.registers.proofs.record.Processor.Laws as P′
-use Rattle.host.proofs.answer.Report as R
-use Rattle.host.proofs.answer.Report.Laws as R′
-use Rattle.host.proofs.answer.Answer as T
-use Rattle.host.proofs.answer.Answer.Laws as T′
+use Rattle.machine.proofs.answer.Report as R
+use Rattle.machine.proofs.answer.Report.Laws as R′
+use Rattle.machine.proofs.answer.Answer as T
+use Rattle.machine.proofs.answer.Answer.Laws as T′
 
 -- the machine values of a record, of a report and of an answer
 abbrev pub recordVal : Processor → Val

@@ -13,11 +13,11 @@ use denote.Ref.{RefT, MutRef, ptr-vals}
 use denote.Steps.{owned}
 use denote.Struct.Laws as LL
 use Rattle.registers.specs.declared.record.Processor.{Processor}
-use Rattle.host.specs.declared.answer.Answer.{Answer}
-use Rattle.host.specs.declared.answer.Report.{Report}
+use Rattle.machine.specs.declared.answer.Answer.{Answer}
+use Rattle.machine.specs.declared.answer.Report.{Report}
 use Rattle.registers.proofs.record.Processor as P
-use Rattle.host.proofs.answer.Report as R
-use Rattle.host.proofs.answer.Report.Laws as R′
+use Rattle.machine.proofs.answer.Report as R
+use Rattle.machine.proofs.answer.Report.Laws as R′
 use Rattle.board.proofs.Lending.{recordVal, reportVal, closed, Answered}
 
 -- The record's reference, with its lifetime and a share of it. Of the other arguments: their tokens, what they own, the type of their last values and what says those. And the promise, of the record and the report after the call and those last values.

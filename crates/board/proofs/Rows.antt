@@ -16,10 +16,11 @@ use Rattle.instructions.specs.Rules.{firstOf}
 use Rattle.instructions.specs.Board.{documentBoard}
 use Rattle.instructions.specs.Refusals.{orElse, rowFlaws}
 use Rattle.instructions.specs.Listing.{entriesFrom, listingRefusal, listing}
-use Rattle.registers.specs.declared.record.Processor.{Processor}
 use Rattle.board.specs.declared.listing.Plan.{Plan}
-use Rattle.board.specs.Listed.{Lists, listedReport, planFor}
-use Rattle.host.specs.Outcome.{machineOf}
+use Rattle.model.specs.Log.{noCounts}
+use Rattle.machine.specs.Lent.{Lent, machineIn}
+use Rattle.host.specs.Outcome.{Reports}
+use Rattle.board.specs.Listed.{Lists, Plans}
 use Rattle.host.specs.declared.listing.LineRecord.{LineRecord}
 use Rattle.host.specs.Row.{rowOf}
 
@@ -66,44 +67,46 @@ unfolding rowFlaws
 row-fits rows dir e =
     by-eq rows (length dir) (λ z. z) (λ d. let h : 110 ≡ 0 = sym (ap (λ (t : Bool). if (not t) 110 0) (ne-eqb rows (length dir) d)) ∙ e in omega (arith, h))
 
-module _ (p : Processor) (mem macs cache dir : List ℕ) (ys : List LineRecord) where
+module _ (l : Lent) (ys : List LineRecord) where
   abbrev refused : ℕ → ℕ
-  refused = listingRefusal documentBoard (machineOf p mem macs cache dir)
+  refused = listingRefusal documentBoard (machineIn l)
 
-  as-many : (rows : ℕ) → refused rows ≡ 0 → rows ≡ length dir
+  as-many : (rows : ℕ) → refused rows ≡ 0 → rows ≡ length (l .dir)
   unfolding listingRefusal
-  as-many rows e = row-fits rows dir (second-none _ _ (second-none _ _ e))
+  as-many rows e = row-fits rows (l .dir) (second-none _ _ (second-none _ _ e))
 
   abbrev entries : List Entry
-  entries = entriesFrom direct dir (length dir) 0
+  entries = entriesFrom direct (l .dir) (length (l .dir)) 0
 
   -- the row after the plan for the refusal n is carried out, and the meaning's
   abbrev row : ℕ → List LineRecord
   row n = if (eqb n 0) (map rowOf (if (eqb n 0) entries (replicate (length ys) empty))) ys
 
-  carried : refused (length ys) ≡ 0 → written (rowAt direct dir) (length ys) ys ≡ map rowOf entries
-  carried e = filled-whole direct dir ys ∙ ap (λ (c : ℕ). map rowOf (entriesFrom direct dir c 0)) (as-many (length ys) e)
+  abbrev upTo : ℕ → List LineRecord
+  upTo n = written (rowAt direct (l .dir)) n ys
 
-  carried-out : (n : ℕ) → n ≡ refused (length ys) → written (rowAt direct dir) (if (eqb n 0) (length ys) 0) ys ≡ row n
+  carried : refused (length ys) ≡ 0 → upTo (length ys) ≡ map rowOf entries
+  carried e = filled-whole direct (l .dir) ys ∙ ap (λ (c : ℕ). map rowOf (entriesFrom direct (l .dir) c 0)) (as-many (length ys) e)
+
+  carried-out : (n : ℕ) → n ≡ refused (length ys) → upTo (if (eqb n 0) (length ys) 0) ≡ row n
   carried-out n is =
-      by-eq n 0
-      (λ z. let t : eqb n 0 ≡ true = eq-eqb n 0 z in
-      ap (λ (b : Bool). written (rowAt direct dir) (if b (length ys) 0) ys) t ∙ carried (sym is ∙ z) ∙ sym (ap (λ (b : Bool). if b (map rowOf (if b entries (replicate (length ys) empty))) ys) t))
-      (λ d. let t : eqb n 0 ≡ false = ne-eqb n 0 d in
-      ap (λ (b : Bool). written (rowAt direct dir) (if b (length ys) 0) ys) t ∙ sym (ap (λ (b : Bool). if b (map rowOf (if b entries (replicate (length ys) empty))) ys) t))
+      by-eq n 0 (λ z. rw (eq-eqb n 0 z) (carried (sym is ∙ z))) (λ d. rw (ne-eqb n 0 d))
 
-  pub lists : (k : Plan) → k ≡ planFor (refused (length ys)) (length ys) → Lists p mem macs cache dir ys (k .report) (written (rowAt direct dir) (k .count) ys)
+  -- refused by the length of the row, or by that of as many empty entries
+  same-refusal : refused (length ys) ≡ refused (length (replicate (length ys) empty))
+  same-refusal = ap refused (sym (length-replicate (length ys) empty))
+
+  pub lists : (k : Plan) → Plans (refused (length ys)) (length ys) k → Lists l ys (k .report) (upTo (k .count))
   unfolding listing documentBoard
-  lists k e =
-      let same : refused (length ys) ≡ refused (length (replicate (length ys) empty)) = ap refused (sym (length-replicate (length ys) empty)) in
+  lists k plan =
       record {
-        reported = ap (λ (j : Plan). j .report) e ∙ ap listedReport same;
-        filled = ap (λ (j : Plan). written (rowAt direct dir) (j .count) ys) e ∙ carried-out (refused (length ys)) refl ∙ ap row same;
+        reported = rw (← same-refusal) (plan .reported);
+        filled = ap upTo (plan .filled) ∙ carried-out (refused (length ys)) refl ∙ ap row same-refusal;
       }
 
   -- no more records are filled than there are
-  pub plan-within : (k : Plan) → k ≡ planFor (refused (length ys)) (length ys) → k .count ≤ length ys
-  plan-within k e = subst (λ (j : Plan). j .count ≤ length ys) (sym e) (by-bool (eqb (refused (length ys)) 0))
+  pub plan-within : (k : Plan) → Plans (refused (length ys)) (length ys) k → k .count ≤ length ys
+  plan-within k plan = subst (λ (c : ℕ). c ≤ length ys) (sym (plan .filled)) (by-bool (eqb (refused (length ys)) 0))
     where
       by-bool : (t : Bool) → if t (length ys) 0 ≤ length ys
       by-bool true = le-refl (length ys)

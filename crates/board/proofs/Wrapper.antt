@@ -27,13 +27,13 @@ use denote.Triple.End.{all, Fins, Outs, outs, lastsOf}
 use denote.Triple.Spec.{Spec, Meets, tripleOf, exits}
 use denote.Triple.Statement.{Triple}
 use Rattle.registers.specs.declared.record.Processor.{Processor}
-use Rattle.host.specs.declared.answer.Report.{Report}
+use Rattle.machine.specs.declared.answer.Report.{Report}
 use Rattle.registers.proofs.record.Processor as P
 use Rattle.registers.proofs.record.Processor.Laws as P′
-use Rattle.host.proofs.answer.Report as R
-use Rattle.host.proofs.answer.Report.Laws as R′
-use Rattle.host.proofs.answer.Answer as T
-use Rattle.host.proofs.answer.Answer.Laws as T′
+use Rattle.machine.proofs.answer.Report as R
+use Rattle.machine.proofs.answer.Report.Laws as R′
+use Rattle.machine.proofs.answer.Answer as T
+use Rattle.machine.proofs.answer.Answer.Laws as T′
 use Rattle.board.proofs.Lending.{recordVal, lentTy}
 use Rattle.board.proofs.Promise.{Passing, Asks}
 

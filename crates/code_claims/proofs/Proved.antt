@@ -3,7 +3,6 @@ use mathlib.Core.Path.{_≡_, refl, sym, ap, _∙_}
 use mathlib.Core.List.{List, [], _∷_}
 use lib.ListN.{length-append}
 use Prim.Native.Nat.{ℕ}
-use Rattle.lists.specs.Bytes.{zeros}
 use Rattle.lists.specs.Words.{bigBytes}
 use Rattle.lists.proofs.ByteLaws.{bytes-append}
 use Rattle.lists.proofs.WordLaws.{length-bigBytes, bytes-bigBytes}
@@ -12,25 +11,22 @@ use Rattle.sealing.specs.Lines.{drkOf}
 use Rattle.model.specs.Uncached.{Uncached}
 use Rattle.model.specs.Cached.{Cached, asItStands}
 use Rattle.instructions.specs.Board.{documentBoard}
-use Rattle.instructions.specs.Record.{reset}
 use Rattle.instructions.specs.Calls.{Call, Machine, Result, uncachedSetup, called}
 use Rattle.ciphers.specs.Cipher.{aesCipher}
 use Rattle.ciphers.proofs.Laws.{aesLaws}
 use Rattle.demand3.specs.Statement as meaning
 use Rattle.demand3.specs.Statement.{writtenBack, withCache, withoutCache, SameOutside}
 use Rattle.demand3.proofs.Document.{demand3-from-reset}
-use Rattle.cache.specs.Lent.{countsIn}
-use Rattle.registers.specs.Map.{processorOf}
-use Rattle.host.specs.declared.answer.Report.{Report}
-use Rattle.host.specs.Outcome.{resultOf, Gives, Leaves, clearedOf}
-use Rattle.code_claims.specs.Claim.{Lent, machineIn, Made, Session, ended, andThen, beside, Same, AlwaysSame, none, next, fromReset, Demand3AtTheCode}
+use Rattle.machine.specs.Lent.{Lent, machineIn}
+use Rattle.host.specs.Outcome.{resultOf, Gives, Leaves}
+use Rattle.code_claims.specs.Claim.{Made, Session, ended, andThen, beside, Same, AlwaysSame, none, next, Demand3AtTheCode}
 
 module _ (call : Call) (l : Lent) (made : Made call l) where
   -- the call of the meaning
   abbrev result : Result Cached
   result = withCache documentBoard aesCipher call (machineIn l)
 
-  gives : Gives result (made .report .answer) (made .report .steps) (countsIn (made .report .counts)) (made .buffer) (machineIn (made .after))
+  gives : Gives result (made .report) (made .buffer) (machineIn (made .after))
   unfolding Leaves resultOf withCache
   gives = made .promised
 
@@ -69,6 +65,8 @@ drk-sized hi lo =
     }
 
 pub a-cache-changes-the-counts-and-nothing-else : Demand3AtTheCode
-unfolding reset documentBoard asItStands zeros
-a-cache-changes-the-counts-and-nothing-else p mem macs C b z e lo hi calls bs session =
-    all-same calls _ session _ (demand3-from-reset aesCipher aesLaws _ mem macs (processorOf (p .r) (p .special)) C (drk-sized (p .special .drkhi) (p .special .drklo)) b z e lo hi calls bs)
+unfolding asItStands
+a-cache-changes-the-counts-and-nothing-else p behind mem macs C b z e lo hi calls bs session =
+    all-same calls _ session _
+    (rw (behind .cleared)
+    (demand3-from-reset aesCipher aesLaws _ mem macs (behind .was) C (drk-sized (p .special .drkhi) (p .special .drklo)) b z e lo hi calls bs))

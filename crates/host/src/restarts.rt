@@ -5,14 +5,18 @@ use cache::slots;
 use cache::whole;
 use registers::record::Processor;
 use registers::record::Special;
-ghost use mathlib.Core.Path.{_≡_};
-ghost use mathlib.Core.List.{[], _∷_};
+ghost use mathlib.Core.List.{[]};
+ghost use Rattle.instructions.specs.Board.{documentBoard};
+ghost use Rattle.instructions.specs.Record.{reset};
 ghost use Rattle.instructions.specs.Calls.{reboot, powerCut};
-ghost use Rattle.host.specs.Outcome.{Leaves, clearedOf};
+ghost use Rattle.registers.specs.Map.{processorOf, keyOf};
+ghost use Rattle.registers.specs.Effects.{Holds};
+ghost use Rattle.machine.specs.Lent.{before, after};
+ghost use Rattle.host.specs.Outcome.{Leaves};
 
 // Everything zero but DRK and SRH.
 fn cleared(p: Processor) -> Processor
-    ensures { λ r. ⌜ r ≡ clearedOf p ⌝ }
+    ensures { λ r. ⌜ Holds (reset documentBoard (processorOf (p .r) (p .special))) (keyOf (p .special)) (r .r) (r .special) ⌝ }
 {
     let q = p.special;
     Processor {
@@ -51,21 +55,14 @@ pub fn reboot(
     cache: &mut [u8],
     dir: &mut [u32],
 ) -> Answer
-    ensures { λ a. ⌜ Leaves reboot p (now (mem .entry)) (now (macs .entry)) (now (cache .entry)) (now (dir .entry)) (a .processor) (a .report) [] (now (mem .exit)) (now (macs .exit)) (now (cache .exit)) (now (dir .exit)) ⌝ }
+    ensures { λ a. ⌜ Leaves reboot (before p mem macs cache dir) (a .report) []
+        (after (a .processor) mem macs cache dir) ⌝ }
 {
-    let q = p.special;
-    let no = answer::refusal(
-        answer::zeroth(p),
-        q.mode,
-        mem.len(),
-        macs.len(),
-        cache.len(),
-        dir,
-        0,
-    );
+    let no = answer::refusal(p, mem.len(), macs.len(), cache.len(), dir, 0);
     if no != 0 {
         return answer::refused(p, no);
     }
+    let q = p.special;
     let k = whole::evict_all(q.drkhi, q.drklo, mem, macs, cache, dir);
     answer::done(cleared(p), k)
 }
@@ -78,18 +75,10 @@ pub fn power_cut(
     cache: &mut [u8],
     dir: &mut [u32],
 ) -> Answer
-    ensures { λ a. ⌜ Leaves powerCut p (now (mem .entry)) (now (macs .entry)) (now (cache .entry)) (now (dir .entry)) (a .processor) (a .report) [] (now (mem .exit)) (now (macs .exit)) (now (cache .exit)) (now (dir .exit)) ⌝ }
+    ensures { λ a. ⌜ Leaves powerCut (before p mem macs cache dir) (a .report) []
+        (after (a .processor) mem macs cache dir) ⌝ }
 {
-    let q = p.special;
-    let no = answer::refusal(
-        answer::zeroth(p),
-        q.mode,
-        mem.len(),
-        macs.len(),
-        cache.len(),
-        dir,
-        0,
-    );
+    let no = answer::refusal(p, mem.len(), macs.len(), cache.len(), dir, 0);
     if no != 0 {
         return answer::refused(p, no);
     }

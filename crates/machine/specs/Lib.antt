@@ -2,3 +2,4 @@
 pub mod Grants
 pub mod Steps
 pub mod Runs
+pub mod Lent

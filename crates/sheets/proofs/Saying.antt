@@ -9,14 +9,14 @@ use Rattle.model.specs.Log.{Note, Counts, countsOf}
 use Rattle.model.specs.Cached.{Cached}
 use Rattle.instructions.specs.Calls.{Machine, Result, counts}
 use Rattle.cache.specs.Lent.{countsIn}
-use Rattle.host.specs.declared.answer.Report.{Report}
+use Rattle.machine.specs.declared.answer.Report.{Report}
 use Rattle.host.specs.Outcome.{Gives}
 use Rattle.sheets.specs.declared.sheet.Sheet.{Sheet}
 use Rattle.sheets.specs.Figures.{SameNumbers, FilledIn}
 use Rattle.sheets.specs.Says.{sumOver, ordinaryFill, protectedFill, ordinaryWrite, protectedWrite, Says}
 use Rattle.sheets.proofs.Notes.{adds, within}
 
-module _ {x : Result Cached} {r : Report} {buffer : List ℕ} {m : Machine Cached} (g : Gives x (r .answer) (r .steps) (countsIn (r .counts)) buffer m) where
+module _ {x : Result Cached} {r : Report} {buffer : List ℕ} {m : Machine Cached} (g : Gives x r buffer m) where
   -- what a sheet asks of the counts
   pub orderly-counts : (r .counts .checked ≤ r .counts .filled) × (r .counts .made ≤ r .counts .written)
   unfolding counts

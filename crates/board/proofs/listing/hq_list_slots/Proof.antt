@@ -54,16 +54,16 @@ use Rattle.lists.proofs.Cases.{by-test}
 use Rattle.directory.specs.Direct.{direct}
 use Rattle.instructions.specs.Board.{documentBoard}
 use Rattle.instructions.specs.Listing.{listingRefusal}
-use Rattle.host.specs.Outcome.{machineOf}
-use Rattle.board.specs.Listed.{planFor}
+use Rattle.machine.specs.Lent.{Lent, machineIn, handed}
+use Rattle.board.specs.Listed.{Plans}
 use Rattle.registers.specs.declared.record.Processor.{Processor}
-use Rattle.host.specs.declared.answer.Report.{Report}
+use Rattle.machine.specs.declared.answer.Report.{Report}
 use Rattle.host.specs.declared.listing.LineRecord.{LineRecord}
 use Rattle.board.specs.declared.listing.Plan.{Plan}
 use Rattle.registers.proofs.record.Processor as P
 use Rattle.registers.proofs.record.Processor.Laws as P′
-use Rattle.host.proofs.answer.Report as R
-use Rattle.host.proofs.answer.Report.Laws as R′
+use Rattle.machine.proofs.answer.Report as R
+use Rattle.machine.proofs.answer.Report.Laws as R′
 use Rattle.host.proofs.listing.LineRecord as L
 use Rattle.host.proofs.listing.LineRecord.Laws as L′
 use Rattle.board.proofs.listing.Plan as N
@@ -135,8 +135,11 @@ module _ {M : Type 1} (𝓤 : URA M) (H : Heap 𝓤) (A : Atoms 𝓤) (W : Given
     tt,
   )
 
+  abbrev was-lent : Lent
+  was-lent = handed (p .now) m₁ m₂ m₃ d
+
   abbrev Made : Plan → Type 0
-  Made k = k ≡ planFor (listingRefusal documentBoard (machineOf (p .now) (m₁ .now) (m₂ .now) (m₃ .now) (d .now)) (length (r .now))) (length (r .now))
+  Made k = Plans (listingRefusal documentBoard (machineIn was-lent) (length (r .now))) (length (r .now)) k
 
   made-of : (k : Plan) → ent 𝓤 (ensured 𝓤 H A planned.ended (planned.clauses 𝓤 H A mem₀ run) (κ₁, (κ₂, (κ₃, (κ₄, tt)))) (p .now, (m₁, (m₂, (m₃, (d, (length (r .now), tt)))))) tt k) (fact 𝓤 (Made k))
   made-of k = exE 𝓤 _ (λ ws. snd∗ 𝓤 (sem 𝓤 H A (lasts planned.ended (κ₁, (κ₂, (κ₃, (κ₄, tt)))) (p .now, (m₁, (m₂, (m₃, (d, (length (r .now), tt)))))) ws)) (fact 𝓤 (Made k)))
@@ -194,7 +197,7 @@ module _ {M : Type 1} (𝓤 : URA M) (H : Heap 𝓤) (A : Atoms 𝓤) (W : Given
 
     -- place i is in the row, and its offset is a number of the machine
     in-row : (i : ℕ) → i < n → i < length (r .now)
-    in-row i less = lt-of-lt-of-le less (plan-within (p .now) (m₁ .now) (m₂ .now) (m₃ .now) (d .now) (r .now) k made)
+    in-row i less = lt-of-lt-of-le less (plan-within was-lent (r .now) k made)
 
     offset-fits : (i : ℕ) → i < length (r .now) → i * 16 < 2 ^ 64
     offset-fits i less = let h : length (r .now) * 16 < 2 ^ 63 = room .1 in omega (arith, h, less)
@@ -249,7 +252,7 @@ module _ {M : Type 1} (𝓤 : URA M) (H : Heap 𝓤) (A : Atoms 𝓤) (W : Given
         nothing ! $ move ! (7 ∷ 0 ∷ []) $ join ! $ move ! (6 ∷ 0 ∷ []) $ join ! $ move ! (5 ∷ 0 ∷ []) $ join ! $ move ! (4 ∷ 0 ∷ []) $ join ! $ move ! (3 ∷ 0 ∷ []) $ join ! $ move ! (2 ∷ 0 ∷ []) $ join ! $
         owned ! R.the-row (Is R.the-row) (LL.makes R.the-type R′.the-plain 𝓤 H A) (k .report) _ is $ move ! (1 ∷ 0 ∷ []) $ join ! $ frame ! $
         show ! (λ (ws : Lasts face.ended κs args). sep 𝓤 (sem 𝓤 H A (lasts face.ended κs args ws)) (face.clauses 𝓤 H A mem₀ run κs args .ensures tt (k .report) (atExit face.ended κs args ws))) (tt, (tt, (tt, (tt, (tt, (upto n, tt)))))) $
-        says ! (lists (p .now) (m₁ .now) (m₂ .now) (m₃ .now) (d .now) (r .now) k made) $
+        says ! (lists was-lent (r .now) k made) $
         use1 W (‵ (fres (r .name) (codedHoleys L.the-row .code (heres L.the-row (upto n))))) (W .names .obs-res (r .name) (codedHoleys L.the-row .code (heres L.the-row (upto n)))) $
         use1 W (‵ (finally L.the-row (r .name) (upto n))) (res-finally 𝓤 H A W (named 5) κ₅ L.the-row (r .name) (upto n)) $
         feqI ! ℕ (length (upto n)) (length (r .now)) (length-written (rowAt direct (d .now)) n (r .now)) $ move ! (1 ∷ 0 ∷ []) $ fjoin ! $
