@@ -15,7 +15,7 @@ use Rattle.lists.proofs.ByteLaws.{getD-zeros}
 use Rattle.model.specs.Cipher.{Cipher}
 use Rattle.instructions.specs.Rules.{firstOf}
 use Rattle.instructions.specs.Board.{Board}
-use Rattle.instructions.specs.Record.{Processor, reg, withReg, withThread, active, reset, Sane}
+use Rattle.instructions.specs.Record.{Processor, reg, withReg, active, reset, Sane}
 use Rattle.instructions.specs.Fields.{opcode, fieldA}
 use Rattle.instructions.specs.Operations.{hasValue, value, nextMode, executed}
 use Rattle.instructions.specs.Suspend.{hashOf, hidden, suspended, entered, resumes, restored, returned}
@@ -69,7 +69,7 @@ module _ (B : Board) (c : Cipher) (key : List ℕ) (r : Processor) (S : Sane r) 
       }
 
   pub sane-entered : (n : ℕ) → Sane (entered B c key n r)
-  unfolding entered suspended withThread reg
+  unfolding entered suspended reg
   sane-entered n =
       record {
         zeroth = chosen-zeroth (active r) (hidden B c key (hashOf B c key (r .regs)) (r .regs)) (r .regs) (hidden-zeroth B c key (hashOf B c key (r .regs)) (r .regs) ∙ S .zeroth) (S .zeroth);
@@ -77,7 +77,7 @@ module _ (B : Board) (c : Cipher) (key : List ℕ) (r : Processor) (S : Sane r) 
       }
 
   sane-returned : Sane (returned B c key r)
-  unfolding returned restored withThread reg
+  unfolding returned restored reg
   sane-returned =
       record {
         zeroth = chosen-zeroth (resumes r) (restored B c key r) (r .regs) (hidden-zeroth B c key (r .cem .saved .hash) (r .regs) ∙ S .zeroth) (S .zeroth);

@@ -10,7 +10,7 @@ use Rattle.lists.proofs.ByteLaws.{same-refl}
 use Rattle.lists.proofs.Xor.{xoredBehind-undo}
 use Rattle.model.specs.Cipher.{Cipher}
 use Rattle.instructions.specs.Board.{Board, modulus}
-use Rattle.instructions.specs.Record.{Processor, withThread, active}
+use Rattle.instructions.specs.Record.{Processor, active}
 use Rattle.instructions.specs.Fields.{opcode}
 use Rattle.instructions.specs.Operations.{nextMode, taken, behind, nextPc, executed}
 use Rattle.instructions.specs.Suspend.{hashOf, hidden, suspended, entered, resumes, restored, hashRight, returned}
@@ -27,15 +27,15 @@ module _ (B : Board) (c : Cipher) (key : List ℕ) (n : ℕ) (r : Processor) (on
   asleep = entered B c key n r
 
   pub resume-matches : resumes asleep ≡ true
-  unfolding resumes entered suspended withThread
+  unfolding resumes entered suspended
   resume-matches = rw (on, eq-eqb (r .pc) (r .pc) refl, eq-eqb (r .pid) (r .pid) refl, eq-eqb (r .cid) (r .cid) refl)
 
   pub resume-restores : restored B c key asleep ≡ r .regs
-  unfolding restored entered suspended withThread
+  unfolding restored entered suspended
   resume-restores = rw on (hidden-undo B c key (hashOf B c key (r .regs)) (r .regs))
 
   saved-hash : asleep .cem .saved .hash ≡ hashOf B c key (r .regs)
-  unfolding entered suspended withThread
+  unfolding entered suspended
   saved-hash = rw on
 
   pub resume-hash : hashRight B c key asleep ≡ true
@@ -43,7 +43,7 @@ module _ (B : Board) (c : Cipher) (key : List ℕ) (n : ℕ) (r : Processor) (on
   resume-hash = rw (resume-restores, saved-hash) (same-refl (hashOf B c key (r .regs)))
 
   pub resumed : (returned B c key asleep .regs ≡ r .regs) × (returned B c key asleep .pc ≡ r .pc) × (returned B c key asleep .cem .mode ≡ 1)
-  unfolding returned withThread
+  unfolding returned
   resumed = (rw (resume-matches, resume-restores), kept-pc, rw resume-matches)
     where
       kept-pc : asleep .epc ≡ r .pc

@@ -12,7 +12,7 @@ use Rattle.model.specs.Cipher.{Cipher}
 use Rattle.model.specs.Lines.{lineAt, macAt, passes}
 use Rattle.model.specs.Uncached.{Uncached}
 use Rattle.instructions.specs.Board.{documentBoard}
-use Rattle.instructions.specs.Record.{Processor, reg}
+use Rattle.instructions.specs.Record.{Processor, reg, withRegs, withPc, withMode, withLock, blank}
 use Rattle.instructions.specs.Fields.{opcode, fieldA, fieldB, fieldC}
 use Rattle.instructions.specs.Step.{Stepped}
 use Rattle.instructions.specs.Calls.{uncachedSetup, step}
@@ -24,15 +24,7 @@ encoded op a b c low = op * 67108864 + a * 2097152 + b * 65536 + c * 2048 + low
 -- a record with a mode, a lock, a pc, and words in R1 and R2; all else zero
 unfoldable pub thread : ℕ → Bool → ℕ → ℕ → ℕ → Processor
 thread mode lock pc x y =
-    record {
-      regs = 0 ∷ x ∷ y ∷ zeros 29;
-      pc = pc;
-      epc = 0;
-      cause = 0;
-      pid = 0;
-      cid = 0;
-      cem = record { mode = mode; lock = lock; srh = zeros 4; buffer = zeros 4; saved = record { hash = zeros 16; address = 0; pid = 0; cid = 0 } };
-    }
+    withRegs (0 ∷ x ∷ y ∷ zeros 29) (withPc pc (withMode mode (withLock lock (blank documentBoard))))
 
 -- one step of a record on a memory
 unfoldable pub stepOn : Cipher → Processor → Uncached → Stepped

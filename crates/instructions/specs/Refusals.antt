@@ -7,12 +7,9 @@ use lib.Dec.{eqb, leb, ltb}
 use Rattle.lists.specs.If.{if}
 use Rattle.model.specs.Uncached.{Uncached}
 use Rattle.model.specs.Cached.{Cached}
+unfoldable pub use Rattle.instructions.specs.Rules.{orElse}
 use Rattle.instructions.specs.Board.{Board}
 use Rattle.instructions.specs.Record.{Processor, reg}
-
--- the first number unless it is 0, and then the second
-unfoldable pub orElse : ℕ → ℕ → ℕ
-orElse a b = if (eqb a 0) b a
 
 -- M is a multiple of 64, 128 ≤ M ≤ 65,536
 unfoldable pub sizeFine : ℕ → Bool

@@ -1,19 +1,18 @@
 -- What a memory phase promises: what the cached memory makes of a wish, its counts being the sums over the notes.
 use Prim.Native.Nat.{ℕ, _+_, _*_, _/_, _%_, _<_, _≤_}
 use mathlib.Core.Path.{_≡_}
-use mathlib.Core.Bool.{Bool, false}
+use mathlib.Core.Bool.{Bool}
 use mathlib.Core.List.{List}
 use lib.ListN.{set}
-use lib.Dec.{eqb}
 use Rattle.lists.specs.Parts.{partAt, putAt}
 use Rattle.lists.specs.Words.{little, littleBytes}
 use Rattle.lists.specs.If.{if}
-use Rattle.model.specs.Tags.{Tag, noTag, secureInstruction}
 use Rattle.model.specs.Log.{Counts, countsOf}
 use Rattle.model.specs.Requests.{perform}
 use Rattle.model.specs.Cached.{Cached, cached}
 use Rattle.directory.specs.Direct.{direct}
-use Rattle.instructions.specs.Wishes.{Wish, idle, word, grant}
+use Rattle.instructions.specs.Wishes.{Wish, grant}
+unfoldable pub use Rattle.instructions.specs.Step.{fetchOf}
 use Rattle.ciphers.specs.Cipher.{aesCipher}
 
 -- did the line's check fail, the number that stood there, the counts and the next memory
@@ -37,7 +36,3 @@ pub record Touches (slot at tag n : ℕ) (write : Bool) (v r : ℕ) (cache dir c
   pub number : r ≡ little (partAt (slot * 64 + at) 8 cache)
   pub bytes : cache′ ≡ if write (putAt (slot * 64 + at) 8 (littleBytes 8 v) cache) cache
   pub marks : dir′ ≡ if write (set dir slot (9 + 2 * tag + 16 * n)) dir
-
--- the wish of a fetch: nothing where it faulted, and otherwise the instruction word at pc, as signed code in active mode
-unfoldable pub fetchOf : ℕ → ℕ → ℕ → Wish
-fetchOf fault mode pc = if (eqb fault 0) (word (if (eqb mode 1) secureInstruction noTag) pc 4 false 0) idle

@@ -27,9 +27,9 @@ use Rattle.keeps.proofs.Requests.{perform-good}
 use Rattle.instructions.specs.Board.{Board}
 use Rattle.instructions.specs.Record.{Processor}
 use Rattle.instructions.specs.Fields.{opcode}
-use Rattle.instructions.specs.Operations.{Ra, address, keyFrom}
+use Rattle.instructions.specs.Operations.{Ra, Rb, address}
 use Rattle.instructions.specs.Wishes.{Wish, idle, word, newKey, Got, grant}
-use Rattle.instructions.specs.Step.{fetchWish, knownFault, dataWish}
+use Rattle.instructions.specs.Step.{fetchOf, fetchWish, knownFault, wishes, wishFor, dataWish}
 use Rattle.instructions.specs.Faults.{fetchFault}
 use Rattle.instructions.specs.Calls.{Machine, cachedSetup, step, runFrom, Call, run, interrupt, busRead, busWrite, busMac, writeBackAll, reboot, powerCut, callFlaws, accepted, called, changed, asked, refused, refusal}
 use Rattle.instructions.proofs.Phases.{fetchPhase, dataPhase, phases}
@@ -39,7 +39,8 @@ use Rattle.instructions.specs.Refusals.{runFlaws}
 use Rattle.sound.proofs.Refused.{none-refused}
 use Rattle.sound.specs.BoardLaws.{BoardLaws}
 use Rattle.sound.specs.Acceptable.{Acceptable, fetched}
-use Rattle.sound.proofs.Programs.{fetch-fair, grant-sound, none-first}
+use Rattle.sound.proofs.Programs.{fetch-fair, grant-sound}
+use Rattle.instructions.proofs.RuleLaws.{firstOf-none, pick-each}
 use Rattle.sound.proofs.Lent.{lent-good}
 use Rattle.sound.proofs.Kept.{Kept, step-kept}
 
@@ -73,28 +74,20 @@ module _ (c : Cipher) (P : Placement) where
 
 -- the fetch takes no key
 fetch-no-key : (M : ℕ) (r : Processor) → takesKey (fetchWish M r) ≡ false
-unfolding fetchWish takesKey
+unfolding fetchWish fetchOf takesKey
 fetch-no-key M r = by-test (eqb (fetchFault M r) 0) (λ h. rw h) (λ h. rw h)
 
 -- the data access takes no key unless the opcode is drk.set's
-no-key-of-five : (a b d e : Bool) (x10 x11 x32 x41 x42 : Wish) → takesKey x10 ≡ false → takesKey x11 ≡ false → takesKey x41 ≡ false → takesKey x42 ≡ false → takesKey (if a x10 (if b x11 (if false x32 (if d x41 (if e x42 idle))))) ≡ false
-unfolding takesKey
-no-key-of-five true b d e x10 x11 x32 x41 x42 p q r t = p
-no-key-of-five false true d e x10 x11 x32 x41 x42 p q r t = q
-no-key-of-five false false true e x10 x11 x32 x41 x42 p q r t = r
-no-key-of-five false false false true x10 x11 x32 x41 x42 p q r t = t
-no-key-of-five false false false false x10 x11 x32 x41 x42 p q r t = refl
-
-data-no-key : (B : Board) (M : ℕ) (r : Processor) (got : Got) → opcode (got .number) ≢ 32 → takesKey (dataWish B M r got) ≡ false
-unfolding dataWish takesKey
-data-no-key B M r got d =
+data-no-key : (B : Board) (c : Cipher) (key : List ℕ) (M : ℕ) (r : Processor) (got : Got) → opcode (got .number) ≢ 32
+    → takesKey (dataWish B c key M r got) ≡ false
+unfolding dataWish wishFor takesKey
+data-no-key B c key M r got d =
     let w = got .number in
     by-test (eqb (knownFault B M r got) 0)
     (λ h.
-    rw (h, ne-eqb (opcode w) 32 d)
-    (no-key-of-five (eqb (opcode w) 10) (eqb (opcode w) 11) (eqb (opcode w) 41) (eqb (opcode w) 42)
-    (word noTag (address B r w) (B .wordBytes) false 0) (word noTag (address B r w) (B .wordBytes) true (Ra r w)) (newKey (keyFrom r w))
-    (word secureData (address B r w) (B .wordBytes) false 0) (word secureData (address B r w) (B .wordBytes) true (Ra r w)) refl refl refl refl))
+    rw h
+    (pick-each (λ (x : Wish). takesKey x ≡ false) (opcode w) (wishes B (address B r w) (Ra r w) (Rb r w)) idle
+    (λ e. refl, (λ e. refl, (λ e. absurd (d e), (λ e. refl, (λ e. refl, tt {0}))))) refl))
     (λ h. rw h)
 
 pub two-lines : (B : Board) (c : Cipher) (m : Machine Cached) → opcode (fetched B c m) ≢ 32 → Within 2 2 (step B c (cachedSetup B c) m .log)
@@ -107,7 +100,7 @@ two-lines B c m d =
     let b = dataPhase (cached c P) B c (m .memory .key) M r (m .memory) in
     rw (phases (cached c P) B c (m .memory .key) M r (m .memory))
     (within-append 1 1 1 1 (a .log) (b .log) (wish-within c P (fetchWish M r) (m .memory) (fetch-no-key M r))
-    (wish-within c P (dataWish B M r (a .out)) (a .state) (data-no-key B M r (a .out) d)))
+    (wish-within c P (dataWish B c (m .memory .key) M r (a .out)) (a .state) (data-no-key B c (m .memory .key) M r (a .out) d)))
 
 module _ (B : Board) (BL : BoardLaws B) (c : Cipher) (CL : CipherLaws c) (N C : ℕ) (slots : B .slotsFine C ≡ true) where
   -- any step
@@ -120,7 +113,7 @@ module _ (B : Board) (BL : BoardLaws B) (c : Cipher) (CL : CipherLaws c) (N C : 
       let a = fetchPhase (cached c P) B c (m .memory .key) M r (m .memory) in
       let b = dataPhase (cached c P) B c (m .memory .key) M r (m .memory) in
       let G : Good P (BL .placement) N C (a .state) = perform-good c CL P (BL .placement) N C (grant (fetchWish M r)) (m .memory) (grant-sound N (fetchWish M r) (fetch-fair N M r (K .good .mem))) (K .good) in
-      let W : Within 1 (C + 1) (b .log) = rw (G .places) at (any-within c P (dataWish B M r (a .out)) (a .state)) in
+      let W : Within 1 (C + 1) (b .log) = rw (G .places) at (any-within c P (dataWish B c (m .memory .key) M r (a .out)) (a .state)) in
       rw (phases (cached c P) B c (m .memory .key) M r (m .memory))
       (within-more (1 + 1) (1 + (C + 1)) 2 (C + 2) (a .log ++ b .log) (omega arith) (omega arith)
       (within-append 1 1 1 (C + 1) (a .log) (b .log) (wish-within c P (fetchWish M r) (m .memory) (fetch-no-key M r)) W))
@@ -165,7 +158,7 @@ module _ (B : Board) (BL : BoardLaws B) (c : Cipher) (CL : CipherLaws c) (m : Ma
   accepted-bound : (call : Call) → firstOf (callFlaws (length (m .memory .mem)) call) ≡ 0 → Within 20000 (10000 * (C + 2)) (accepted B c (cachedSetup B c) call m .log)
   unfolding accepted callFlaws changed asked cachedSetup cached cachedHandle runFlaws
   accepted-bound (run n) z =
-      let h : n ≤ 10000 = ltb-false 10000 n (none-first (ltb 10000 n) 108 0 (λ q. omega arith) z .0) in
+      let h : n ≤ 10000 = ltb-false 10000 n (firstOf-none (ltb 10000 n) 108 0 (λ q. omega arith) z .0) in
       within-more (n * 2) (n * (C + 2)) 20000 (10000 * (C + 2)) (runFrom B c (cachedSetup B c) n 0 m .log) (omega arith) (mul-le-mul-right (C + 2) h) (run-bound B BL c CL n m A)
   accepted-bound interrupt z = few 0 [] (omega arith) within-none
   accepted-bound (busRead n x) z = few 1 (evictLine c (B .placement) n (m .memory) .log) (omega arith) (drop-within c (B .placement) (m .memory) n)

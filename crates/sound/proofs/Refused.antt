@@ -13,7 +13,7 @@ use Rattle.model.specs.CipherLaws.{Sized}
 use Rattle.instructions.specs.Rules.{firstOf}
 use Rattle.instructions.specs.Refusals.{orElse, recordFlaws, lineFlaws, bufferFlaws}
 use Rattle.instructions.specs.Calls.{Call, callFlaws, Machine, Setup, refusal}
-use Rattle.sound.proofs.Programs.{none-first}
+use Rattle.instructions.proofs.RuleLaws.{firstOf-none}
 
 -- neither of two numbers, of which the second counts where the first is 0
 or-else-zero : (a b : ℕ) → orElse a b ≡ 0 → b ≡ 0
@@ -24,7 +24,7 @@ or-else-zero a b z = by-test (eqb a 0) (λ h. rw h at z) (λ h. absurd (eqb-fals
 pub line-in : (N M n : ℕ) (rest : List (Bool × ℕ)) → M ≡ N * 64 → firstOf (lineFlaws M n ++ rest) ≡ 0 → (n < N) × (firstOf rest ≡ 0)
 unfolding lineFlaws
 line-in N M n rest e z =
-    let a = none-first (leb (M / 64) n) 106 (firstOf rest) (λ q. omega arith) z in
+    let a = firstOf-none (leb (M / 64) n) 106 (firstOf rest) (λ q. omega arith) z in
     let l : n < M / 64 = leb-false (M / 64) n (a .0) in
     let h : n < N = omega arith in
     (h, a .1)
@@ -33,7 +33,7 @@ line-in N M n rest e z =
 pub buffer-sized : (k : ℕ) (x : List ℕ) → firstOf (bufferFlaws k x) ≡ 0 → Bytes x → Sized k x
 unfolding bufferFlaws
 buffer-sized k x z b =
-    let a = none-first (not (eqb (length x) k)) 107 0 (λ q. omega arith) z in
+    let a = firstOf-none (not (eqb (length x) k)) 107 0 (λ q. omega arith) z in
     record { size = eqb-true (length x) k (not-false (eqb (length x) k) (a .0)); bytes = b }
 
 -- a call that is not refused is not refused for its line, buffer or n

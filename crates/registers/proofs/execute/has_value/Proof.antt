@@ -1,5 +1,5 @@
 -- `registers::execute::has_value` meets its promise.
-use Rattle.registers.proofs.Values.{value-low, value-single, no-value}
+use Rattle.registers.proofs.ValueOpcodes.{value-low, value-single, no-value}
 use Prim.Native.Nat.{ℕ, _≤_, _<_}
 use mathlib.Core.Path.{_≡_}
 use native.Mathlib.Omega.{arith}

@@ -8,10 +8,16 @@ use mathlib.Core.List.{[], _∷_}
 use types.Run.{OneOf}
 use Rattle.instructions.specs.Rules.{oneOf}
 use Rattle.instructions.specs.Fields.{opcode}
-use Rattle.instructions.specs.Operations.{hasValue}
-use Rattle.registers.proofs.Choices.{apart}
+use Rattle.instructions.specs.Operations.{valueOpcodes, hasValue}
+use lib.Dec.{eqb}
+use mathlib.Core.Bool.{Bool, _||_}
+use borrow.Author.Tests.{ne-eqb}
 
-low : (op : ℕ) → 1 ≤ op → op < 8 → true ≡ oneOf op (1 ∷ 2 ∷ 3 ∷ 4 ∷ 5 ∷ 6 ∷ 7 ∷ 10 ∷ 12 ∷ 14 ∷ 38 ∷ 41 ∷ [])
+-- a number that is none of a list's
+apart : (n k : ℕ) (rest : Bool) → (n ≡ k → ⊥) → rest ≡ false → (eqb n k || rest) ≡ false
+apart n k rest h e = rw (ne-eqb n k h) e
+
+low : (op : ℕ) → 1 ≤ op → op < 8 → true ≡ oneOf op valueOpcodes
 low zero a b = absurd (omega (arith, a))
 low (suc zero) a b = refl
 low (suc (suc zero)) a b = refl
@@ -22,7 +28,7 @@ low (suc (suc (suc (suc (suc (suc zero)))))) a b = refl
 low (suc (suc (suc (suc (suc (suc (suc zero))))))) a b = refl
 low (suc (suc (suc (suc (suc (suc (suc (suc op)))))))) a b = absurd (omega (arith, b))
 
-single : (op : ℕ) → OneOf (10 ∷ 12 ∷ 14 ∷ 38 ∷ 41 ∷ []) op → true ≡ oneOf op (1 ∷ 2 ∷ 3 ∷ 4 ∷ 5 ∷ 6 ∷ 7 ∷ 10 ∷ 12 ∷ 14 ∷ 38 ∷ 41 ∷ [])
+single : (op : ℕ) → OneOf (10 ∷ 12 ∷ 14 ∷ 38 ∷ 41 ∷ []) op → true ≡ oneOf op valueOpcodes
 single op (inl e) = rw e
 single op (inr (inl e)) = rw e
 single op (inr (inr (inl e))) = rw e
