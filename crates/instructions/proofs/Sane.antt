@@ -29,10 +29,12 @@ pub flaws-sane : (r : Processor) → firstOf (recordFlaws r) ≡ 0 → Sane r
 unfolding recordFlaws
 flaws-sane r z = go (not (eqb (reg r 0) 0)) (ltb 2 (r .cem .mode)) refl refl z
   where
-    go : (a b : Bool) → not (eqb (reg r 0) 0) ≡ a → ltb 2 (r .cem .mode) ≡ b → _≡_ {A = ℕ} (if (a || b) 105 0) 0 → Sane r
+    go : (a b : Bool) → not (eqb (reg r 0) 0) ≡ a → ltb 2 (r .cem .mode) ≡ b → _≡_ {A = ℕ} (if (a || b) 105 0) 0
+        → Sane r
     go true b p q e = absurd (omega arith)
     go false true p q e = absurd (omega arith)
-    go false false p q e = record { zeroth = eqb-true (reg r 0) 0 (not-false (eqb (reg r 0) 0) p); mode = ltb-false 2 (r .cem .mode) q }
+    go false false p q e =
+        record { zeroth = eqb-true (reg r 0) 0 (not-false (eqb (reg r 0) 0) p); mode = ltb-false 2 (r .cem .mode) q }
 
 pub sane-flaws : (r : Processor) → Sane r → firstOf (recordFlaws r) ≡ 0
 unfolding recordFlaws
@@ -64,15 +66,18 @@ module _ (B : Board) (c : Cipher) (key : List ℕ) (r : Processor) (S : Sane r) 
   unfolding executed reg nextMode
   sane-executed w loaded =
       record {
-        zeroth = chosen-zeroth (hasValue w) (withReg (fieldA w) (value B r w loaded) (r .regs)) (r .regs) (with-zeroth (fieldA w) (value B r w loaded) (r .regs) ∙ S .zeroth) (S .zeroth);
-        mode = chosen (λ (m : ℕ). m ≤ 2) (eqb (opcode w) 39) 1 (if (eqb (opcode w) 40) 0 (r .cem .mode)) (omega arith) (chosen (λ (m : ℕ). m ≤ 2) (eqb (opcode w) 40) 0 (r .cem .mode) (omega arith) (S .mode));
+        zeroth = chosen-zeroth (hasValue w) (withReg (fieldA w) (value B r w loaded) (r .regs)) (r .regs)
+            (with-zeroth (fieldA w) (value B r w loaded) (r .regs) ∙ S .zeroth) (S .zeroth);
+        mode = chosen (λ (m : ℕ). m ≤ 2) (eqb (opcode w) 39) 1 (if (eqb (opcode w) 40) 0 (r .cem .mode)) (omega arith)
+            (chosen (λ (m : ℕ). m ≤ 2) (eqb (opcode w) 40) 0 (r .cem .mode) (omega arith) (S .mode));
       }
 
   pub sane-entered : (n : ℕ) → Sane (entered B c key n r)
   unfolding entered suspended reg
   sane-entered n =
       record {
-        zeroth = chosen-zeroth (active r) (hidden B c key (hashOf B c key (r .regs)) (r .regs)) (r .regs) (hidden-zeroth B c key (hashOf B c key (r .regs)) (r .regs) ∙ S .zeroth) (S .zeroth);
+        zeroth = chosen-zeroth (active r) (hidden B c key (hashOf B c key (r .regs)) (r .regs)) (r .regs)
+            (hidden-zeroth B c key (hashOf B c key (r .regs)) (r .regs) ∙ S .zeroth) (S .zeroth);
         mode = chosen (λ (m : ℕ). m ≤ 2) (active r) 2 (r .cem .mode) (omega arith) (S .mode);
       }
 
@@ -80,7 +85,8 @@ module _ (B : Board) (c : Cipher) (key : List ℕ) (r : Processor) (S : Sane r) 
   unfolding returned restored reg
   sane-returned =
       record {
-        zeroth = chosen-zeroth (resumes r) (restored B c key r) (r .regs) (hidden-zeroth B c key (r .cem .saved .hash) (r .regs) ∙ S .zeroth) (S .zeroth);
+        zeroth = chosen-zeroth (resumes r) (restored B c key r) (r .regs)
+            (hidden-zeroth B c key (r .cem .saved .hash) (r .regs) ∙ S .zeroth) (S .zeroth);
         mode = chosen (λ (m : ℕ). m ≤ 2) (resumes r) 1 (r .cem .mode) (omega arith) (S .mode);
       }
 
