@@ -18,6 +18,11 @@ if-taken b x rest e = rw e
 pub if-left : {A : Type 0} (b : Bool) (x y rest : A) → b ≡ false → x ≡ rest → x ≡ if b y rest
 if-left b x y rest e h = rw e h
 
+-- what holds of both of a choice's values holds of the choice
+pub if-each : {A : Type 0} (P : A → Type 0) (b : Bool) (x y : A) → P x → P y → P (if b x y)
+if-each P true x y p q = p
+if-each P false x y p q = q
+
 -- where the first number is 0, the rule did not apply and the rest has none either
 pub firstOf-none : (b : Bool) (n rest : ℕ) → (n ≡ 0 → ⊥) → if b n rest ≡ 0 → (b ≡ false) × (rest ≡ 0)
 firstOf-none true n rest d e = absurd (d e)
