@@ -1,6 +1,6 @@
 -- The laws of `instructions`, file by file.
-pub mod Sane
 pub mod RuleLaws
+pub mod Sane
 pub mod Phases
 pub mod Marked
 pub mod Traps

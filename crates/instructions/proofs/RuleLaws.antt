@@ -1,4 +1,5 @@
--- The laws of rules as lists: which rule or which of two lists answers, and what a table says at one of its keys and past them all.
+-- The laws of rules as lists: which rule or which of two lists answers, and what a table says at one of its keys and
+-- past them all.
 use Prim.Native.Nat.{ℕ, _<_}
 use native.Mathlib.Omega.{arith}
 use mathlib.Core.Path.{_≡_, refl, sym, _∙_, subst}
@@ -16,6 +17,11 @@ if-taken b x rest e = rw e
 
 pub if-left : {A : Type 0} (b : Bool) (x y rest : A) → b ≡ false → x ≡ rest → x ≡ if b y rest
 if-left b x y rest e h = rw e h
+
+-- what holds of both of a choice's values holds of the choice
+pub if-each : {A : Type 0} (P : A → Type 0) (b : Bool) (x y : A) → P x → P y → P (if b x y)
+if-each P true x y p q = p
+if-each P false x y p q = q
 
 -- where the first number is 0, the rule did not apply and the rest has none either
 pub firstOf-none : (b : Bool) (n rest : ℕ) → (n ≡ 0 → ⊥) → if b n rest ≡ 0 → (b ≡ false) × (rest ≡ 0)
@@ -37,12 +43,14 @@ firstOf-append (r ∷ rs) more h =
     by-test (r .0) (λ e. rw (e, ne-eqb (r .1) 0 some)) (λ e. rw e (firstOf-append rs more (n .1)))
 
 -- of two lists in a row the first answers, or it has nothing and the second does
-pub firstOf-first : (n : ℕ) (rules more : List (Bool × ℕ)) → n ≡ firstOf rules → (n ≡ 0 → ⊥) → n ≡ firstOf (rules ++ more)
+pub firstOf-first : (n : ℕ) (rules more : List (Bool × ℕ)) → n ≡ firstOf rules → (n ≡ 0 → ⊥)
+    → n ≡ firstOf (rules ++ more)
 firstOf-first n [] more e some = absurd (some e)
 firstOf-first n (r ∷ rs) more e some =
     by-test (r .0) (λ h. rw h (rw h at e)) (λ h. rw h (firstOf-first n rs more (rw h at e) some))
 
-pub firstOf-second : (n : ℕ) (rules more : List (Bool × ℕ)) → numbered rules ≡ true → firstOf rules ≡ 0 → n ≡ firstOf more
+pub firstOf-second : (n : ℕ) (rules more : List (Bool × ℕ)) → numbered rules ≡ true → firstOf rules ≡ 0
+    → n ≡ firstOf more
     → n ≡ firstOf (rules ++ more)
 unfolding orElse
 firstOf-second n rules more h e s = s ∙ sym (firstOf-append rules more h ∙ (rw e))
@@ -62,7 +70,8 @@ abbrev pub Each : {A : Type 0} → (A → Type 0) → ℕ → List (ℕ × A) �
 Each P n [] = Unit
 Each P n (r ∷ rs) = (n ≡ r .0 → P (r .1)) × Each P n rs
 
-pub pick-each : {A : Type 0} (P : A → Type 0) (n : ℕ) (table : List (ℕ × A)) (d : A) → Each P n table → P d → P (pick n table d)
+pub pick-each : {A : Type 0} (P : A → Type 0) (n : ℕ) (table : List (ℕ × A)) (d : A) → Each P n table → P d
+    → P (pick n table d)
 pick-each P n [] d each last = last
 pick-each P n (r ∷ rs) d each last =
     by-test (eqb n (r .0)) (λ h. rw h (each .0 (eqb-true n (r .0) h))) (λ h. rw h (pick-each P n rs d (each .1) last))
@@ -90,7 +99,8 @@ outside test (r ∷ rs) = not (test (r .0)) && outside test rs
 pub eqb-outside : (test : ℕ → Bool) (n k : ℕ) → test n ≡ true → test k ≡ false → eqb n k ≡ false
 eqb-outside test n k h q = ne-eqb n k (λ e. false≢true (sym q ∙ (rw e at h)))
 
-pub pick-outside : {A : Type 0} (test : ℕ → Bool) (n : ℕ) (table : List (ℕ × A)) (d : A) → test n ≡ true → outside test table ≡ true
+pub pick-outside : {A : Type 0} (test : ℕ → Bool) (n : ℕ) (table : List (ℕ × A)) (d : A) → test n ≡ true
+    → outside test table ≡ true
     → pick n table d ≡ d
 pick-outside test n [] d h o = refl
 pick-outside test n (r ∷ rs) d h o =

@@ -24,7 +24,8 @@ selListed w = pick (opcode w) ((32, eqb (sel w) 0) ∷ (37, oneOf (sel w) (0 ∷
 unfoldable pub hasAddress : ℕ → Bool
 hasAddress w = oneOf (opcode w) (10 ∷ 11 ∷ 41 ∷ 42 ∷ [])
 
--- of the concealed thread's instructions: 1 drk.set while locked; 3 begin_cem.a outside normal mode; 7 opcode 43 or a sel not listed
+-- of the concealed thread's instructions: 1 drk.set while locked; 3 begin_cem.a outside normal mode; 7 opcode 43 or a
+-- sel not listed
 unfoldable pub threadFaults : Processor → ℕ → List (Bool × ℕ)
 threadFaults r w =
     (eqb (opcode w) 32 && r .cem .lock, 1)

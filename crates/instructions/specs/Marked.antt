@@ -61,9 +61,12 @@ pub record Marked (c : Cipher) : Type 0 where
   -- load at 252: 9, not 10
   pub p10 : stepOf c 0 false 252 0 (encoded 10 3 1 0 0) .fault ≡ 9
   -- load at 256: 10; at 248 served
-  pub p11 : (stepOf c 0 false 256 0 (encoded 10 3 1 0 0) .fault ≡ 10) × (stepOf c 0 false 248 0 (encoded 10 3 1 0 0) .fault ≡ 0)
+  pub p11 :
+      (stepOf c 0 false 256 0 (encoded 10 3 1 0 0) .fault ≡ 10)
+      × (stepOf c 0 false 248 0 (encoded 10 3 1 0 0) .fault ≡ 0)
   -- add at pc 44, in active mode with its line's MAC right: next pc 64; in normal mode 48
   pub p12 :
       (u : Uncached) → length (u .mem) ≡ 256 → little (partAt 44 4 (lineAt 0 (u .mem))) ≡ encoded 1 3 1 2 0
-      → (passes c secureInstruction (u .key) 0 (lineAt 0 (u .mem)) (macAt 0 (u .macs)) ≡ true → stepOn c (thread 1 false 44 0 0) u .processor .pc ≡ 64)
+      → (passes c secureInstruction (u .key) 0 (lineAt 0 (u .mem)) (macAt 0 (u .macs)) ≡ true
+      → stepOn c (thread 1 false 44 0 0) u .processor .pc ≡ 64)
       × (stepOn c (thread 0 false 44 0 0) u .processor .pc ≡ 48)

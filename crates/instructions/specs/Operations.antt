@@ -12,7 +12,8 @@ use Rattle.lists.specs.Words.{big, bigBytes}
 use Rattle.model.specs.Cipher.{Cipher}
 use Rattle.instructions.specs.Rules.{pick, oneOf}
 use Rattle.instructions.specs.Board.{Board, modulus}
-use Rattle.instructions.specs.Record.{Processor, reg, withReg, withRegs, withPc, withEpc, withIds, withMode, withLock, withSrh, withBuffer}
+use Rattle.instructions.specs.Record.{Processor, reg, withReg, withRegs, withPc, withEpc, withIds, withMode}
+use Rattle.instructions.specs.Record.{withLock, withSrh, withBuffer}
 use Rattle.instructions.specs.Fields.{opcode, fieldA, fieldB, fieldC, imm, sel}
 
 -- the word in the register that field a names
@@ -39,8 +40,8 @@ valueOpcodes = 1 ∷ 2 ∷ 3 ∷ 4 ∷ 5 ∷ 6 ∷ 7 ∷ 10 ∷ 12 ∷ 14 ∷ 38
 unfoldable pub hasValue : ℕ → Bool
 hasValue w = oneOf (opcode w) valueOpcodes
 
--- the values by opcode, of the words b and c in Rb and Rc: add, sub, and, or, xor; addi; leading zeros; the word loaded; EPC; cause; word sel
--- of CEM_Buffer
+-- the values by opcode, of the words b and c in Rb and Rc: add, sub, and, or, xor; addi; leading zeros; the word
+-- loaded; EPC; cause; word sel of CEM_Buffer
 abbrev pub values : Board → Processor → ℕ → ℕ → ℕ → ℕ → List (ℕ × ℕ)
 values B r w loaded b c =
     (1, (b + c) % modulus B)
@@ -99,8 +100,9 @@ behind B pc concealed = if (concealed && leb 44 (pc % 64)) ((pc / 64 * 64 + 64) 
 unfoldable pub nextPc : Board → Processor → ℕ → ℕ
 nextPc B r w = if (taken r w) (target B r w) (behind B (r .pc) (eqb (r .cem .mode) 1 || eqb (nextMode r w) 1))
 
--- the effects by opcode, of the words a and b in Ra and Rb, on registers other than Ra, pc and the mode: EPC; PID and CID; DRK_Lock;
--- CEM_Buffer by drk.derive and srh.get; SRH; and gr.get, where word sel + 1 is a and word sel is b (drk.set's new key is the memory's)
+-- the effects by opcode, of the words a and b in Ra and Rb, on registers other than Ra, pc and the mode: EPC; PID and
+-- CID; drk.set's new key is the memory's; DRK_Lock; CEM_Buffer by drk.derive and srh.get; SRH; and gr.get, where word
+-- sel + 1 is a and word sel is b
 abbrev pub effects : Cipher → List ℕ → Processor → ℕ → ℕ → ℕ → List (ℕ × Processor)
 effects c key r w a b =
     (13, withEpc a r)

@@ -16,7 +16,8 @@ pub record Saved : Type 0 where
   pub pid : ℕ
   pub cid : ℕ
 
--- the concealed thread's registers: CEM_Mode (0 normal, 1 active, 2 suspended), DRK_Lock, SRH and CEM_Buffer (words, word 0 first)
+-- the concealed thread's registers: CEM_Mode (0 normal, 1 active, 2 suspended), DRK_Lock, SRH and CEM_Buffer (words,
+-- word 0 first)
 pub record Cem : Type 0 where
   pub mode : ℕ
   pub lock : Bool

@@ -22,7 +22,9 @@ memoryFlaws M A = (not (sizeFine M), 101) ∷ (not (eqb A (M / 4)), 102) ∷ []
 -- 103 C or the data bytes not as above; 104 the directory not as above
 unfoldable pub cacheFlaws : Board → ℕ → ℕ → List ℕ → List (Bool × ℕ)
 cacheFlaws B M bytes dir =
-    (not (B .slotsFine (length dir) && eqb bytes (length dir * 64)), 103) ∷ (not (B .directoryFine (M / 64) dir), 104) ∷ []
+    (not (B .slotsFine (length dir) && eqb bytes (length dir * 64)), 103)
+    ∷ (not (B .directoryFine (M / 64) dir), 104)
+    ∷ []
 
 -- 105 R0 in the record is not zero, or its mode is above 2
 unfoldable pub recordFlaws : Processor → List (Bool × ℕ)
@@ -46,7 +48,8 @@ rowFlaws rows dir = (not (eqb rows (length dir)), 110) ∷ []
 
 -- 101 to 104, for what is lent to the machine with a cache
 unfoldable pub cachedFlaws : Board → Cached → List (Bool × ℕ)
-cachedFlaws B s = memoryFlaws (length (s .mem)) (length (s .macs)) ++ cacheFlaws B (length (s .mem)) (length (s .cache)) (s .dir)
+cachedFlaws B s =
+    memoryFlaws (length (s .mem)) (length (s .macs)) ++ cacheFlaws B (length (s .mem)) (length (s .cache)) (s .dir)
 
 -- 101 and 102, for what is lent to the machine without one
 unfoldable pub uncachedFlaws : Uncached → List (Bool × ℕ)

@@ -16,7 +16,8 @@ use Rattle.instructions.specs.Suspend.{entered, returned}
 use Rattle.instructions.specs.Faults.{fetchFault, decodeFault, lateFault}
 use Rattle.instructions.specs.Wishes.{Wish, idle, word, newKey, Got, grant}
 
--- the fetch by its fault, the mode and pc: nothing where it faulted, and otherwise the instruction word at pc, as signed code in active mode
+-- the fetch by its fault, the mode and pc: nothing where it faulted, and otherwise the instruction word at pc, as
+-- signed code in active mode
 unfoldable pub fetchOf : ℕ → ℕ → ℕ → Wish
 fetchOf fault mode pc = if (eqb fault 0) (word (if (eqb mode 1) secureInstruction noTag) pc 4 false 0) idle
 
@@ -29,8 +30,8 @@ unfoldable pub knownFault : Board → ℕ → Processor → Got → ℕ
 knownFault B M r got =
     if (eqb (fetchFault M r) 0) (if (got .failed) 4 (decodeFault B M r (got .number))) (fetchFault M r)
 
--- the data accesses by opcode, at address a, of the words x and y in Ra and Rb: load and store as the line stands, drk.set's new key,
--- secure_load and secure_store on protected lines
+-- the data accesses by opcode, at address a, of the words x and y in Ra and Rb: load and store as the line stands,
+-- drk.set's new key, secure_load and secure_store on protected lines
 abbrev pub wishes : Board → ℕ → ℕ → ℕ → List (ℕ × Wish)
 wishes B a x y =
     (10, word noTag a (B .wordBytes) false 0)
@@ -59,12 +60,14 @@ finished B c key M r got data′ =
     let w = got .number in
     let known = knownFault B M r got in
     let fault = if (eqb known 0) (lateFault B c key r w (data′ .failed)) known in
+    let done = if (eqb (opcode w) 16) (returned B c key r) (executed B c key r w (data′ .number)) in
     record {
       fault = fault;
-      processor = if (eqb fault 0) (if (eqb (opcode w) 16) (returned B c key r) (executed B c key r w (data′ .number))) (entered B c key fault r);
+      processor = if (eqb fault 0) done (entered B c key fault r);
     }
 
 -- one instruction as a program of requests, under a DRK, on a memory of M bytes
 unfoldable pub instruction : Board → Cipher → List ℕ → ℕ → Processor → Prog Stepped
 instruction B c key M r =
-    andThen (grant (fetchWish M r)) (λ got. andThen (grant (dataWish B c key M r got)) (λ data′. ret (finished B c key M r got data′)))
+    andThen (grant (fetchWish M r))
+    (λ got. andThen (grant (dataWish B c key M r got)) (λ data′. ret (finished B c key M r got data′)))

@@ -1,4 +1,5 @@
--- Suspend and rfi: the registers are hashed and hidden when a fault or an interrupt meets active mode, and come back only unchanged.
+-- Suspend and rfi: the registers are hashed and hidden when a fault or an interrupt meets active mode, and come back
+-- only unchanged.
 use Prim.Native.Nat.{ℕ}
 use mathlib.Core.Bool.{Bool, not, _&&_}
 use mathlib.Core.List.{List, _∷_}
@@ -9,7 +10,8 @@ use Rattle.lists.specs.Bytes.{same}
 use Rattle.lists.specs.Words.{wordsBytes, xoredBehind}
 use Rattle.model.specs.Cipher.{Cipher}
 use Rattle.instructions.specs.Board.{Board}
-use Rattle.instructions.specs.Record.{Saved, Processor, withRegs, withPc, withEpc, withCause, withMode, withSaved, active}
+use Rattle.instructions.specs.Record.{Saved, Processor, withRegs, withPc, withEpc, withCause, withMode}
+use Rattle.instructions.specs.Record.{withSaved, active}
 
 -- the hash of the registers: the MAC under the DRK of byte 4, R1..R31, each high byte first
 unfoldable pub hashOf : Board → Cipher → List ℕ → List ℕ → List ℕ

@@ -24,7 +24,8 @@ use Rattle.instructions.specs.Fields.{opcode}
 use Rattle.instructions.specs.Operations.{Ra, Rb, address, keyFrom}
 use Rattle.instructions.specs.Faults.{fetchFault, lateFault}
 use Rattle.instructions.specs.Wishes.{Wish, idle, word, newKey, Got, grant}
-use Rattle.instructions.specs.Step.{Stepped, fetchOf, fetchWish, wishes, wishFor, dataWish, knownFault, finished, instruction}
+use Rattle.instructions.specs.Step.{Stepped, fetchOf, fetchWish, wishes, wishFor, dataWish, knownFault, finished}
+use Rattle.instructions.specs.Step.{instruction}
 use Rattle.instructions.proofs.RuleLaws.{pick-each}
 use Rattle.instructions.specs.Calls.{Machine, cachedSetup, step}
 use Rattle.instructions.proofs.Phases.{fetchPhase, dataPhase, phases}
@@ -76,7 +77,8 @@ data-inside M key p got q h D k =
     inside-word N M (tagNamed (q .tag)) (q .address) 8 (q .write) (q .value) e (rw k at f)
 
 -- after a fair wish the memory is fit
-pub granted-fit : (wish : Wish) (s t : Cached) (failed : Bool) (n : ℕ) (k : Counts) → FairWish (length (s .mem) / 64) wish → Fit s
+pub granted-fit : (wish : Wish) (s t : Cached) (failed : Bool) (n : ℕ) (k : Counts)
+    → FairWish (length (s .mem) / 64) wish → Fit s
     → Grants wish s failed n k t → Fit t
 granted-fit wish s t failed n k f F G =
     let N = length (s .mem) / 64 in
@@ -139,13 +141,20 @@ module _ (M : ℕ) (key : List ℕ) (p : Processor) (got : Got) (s : Cached) whe
       rw (eq-eqb (knownFault documentBoard M p got) 0 h)
       (pick-each KeepsKey (opcode w) (wishes documentBoard (address documentBoard p w) (Ra p w) (Rb p w)) idle (
         λ e. word-keeps _ _ _ _ _,
-        (λ e. word-keeps _ _ _ _ _, (λ e. absurd (d e), (λ e. word-keeps _ _ _ _ _, (λ e. word-keeps _ _ _ _ _, tt {0})))),
+        (
+          λ e. word-keeps _ _ _ _ _,
+          (
+            λ e. absurd (d e),
+            (λ e. word-keeps _ _ _ _ _, (λ e. word-keeps _ _ _ _ _, tt {0})),
+          ),
+        ),
       )
       idle-keeps)
 
   -- the DRK after a step is the next memory's key
   pub key-after : (data′ : Got) (n : ℕ) → s .key ≡ key → data′ .failed ≡ done wish .out .failed
-      → n ≡ finished documentBoard aesCipher key M p got data′ .fault → if (eqb n 0) (nextKey key p w) key ≡ done wish .state .key
+      → n ≡ finished documentBoard aesCipher key M p got data′ .fault
+      → if (eqb n 0) (nextKey key p w) key ≡ done wish .state .key
   unfolding finished nextKey lateFault
   key-after data′ n k f e =
       by-eq (knownFault documentBoard M p got) 0
@@ -169,8 +178,10 @@ module _ (regs : List ℕ) (q : Special) (mem macs cache dir : List ℕ) where
   abbrev s : Cached
   s = lent (q .drkhi) (q .drklo) mem macs cache dir
 
-  pub stepped : (f : ℕ) (failed : Bool) (n : ℕ) (k₁ : Counts) (t : Cached) (x : Wanted) (failed₂ : Bool) (n₂ : ℕ) (k₂ k : Counts)
-      (mem′ macs′ cache′ dir′ regs′ : List ℕ) (q′ : Special) (fault : ℕ) → f ≡ fetchFault (length mem) p → t .key ≡ keyOf q
+  pub stepped : (f : ℕ) (failed : Bool) (n : ℕ) (k₁ : Counts) (t : Cached) (x : Wanted) (failed₂ : Bool) (n₂ : ℕ)
+      (k₂ k : Counts)
+      (mem′ macs′ cache′ dir′ regs′ : List ℕ) (q′ : Special) (fault : ℕ) → f ≡ fetchFault (length mem) p
+      → t .key ≡ keyOf q
       → Grants (fetchOf f (q .mode) (q .pc)) s failed n k₁ t
       → Decides documentBoard aesCipher (length mem) (keyOf q) p (record { failed = failed; number = n }) x
       → Obtains (wishOf x) t failed₂ n₂ k₂ mem′ macs′ cache′ dir′ → k ≡ plus k₁ k₂
@@ -196,7 +207,8 @@ module _ (regs : List ℕ) (q : Special) (mem macs cache dir : List ℕ) where
       let same-data : A-then ≡ B = λ i. perform C (grant (wish (sym o₁ i))) (sym (G′ .left) i) in
       let same-out : data′ ≡ A-then .out = o₂ ∙ ap (λ z. z .out) (sym same-data) in
       let ph = phases C documentBoard aesCipher (keyOf q) M p s in
-      let key-is : keyOf q′ ≡ B .state .key = F .drk ∙ key-after M (keyOf q) p got t data′ fault tk (H .missed) (F .number) in
+      let key-is : keyOf q′ ≡ B .state .key =
+      F .drk ∙ key-after M (keyOf q) p got t data′ fault tk (H .missed) (F .number) in
       let counts = ap₂ plus (G′ .counted) (H .counted ∙ ap (λ z. countsOf (z .log)) (sym same-data)) in
       record {
         number = F .number ∙ (λ i. end (o₁ i) (same-out i) .fault) ∙ ap (λ z. z .out .fault) (sym ph);
@@ -208,7 +220,8 @@ module _ (regs : List ℕ) (q : Special) (mem macs cache dir : List ℕ) where
       }
 
 -- after a step the memory is fit
-pub steps-fit : (m m′ : Machine Cached) (fault : ℕ) (k : Counts) → Fit (m .memory) → Steps m fault k m′ → Fit (m′ .memory)
+pub steps-fit : (m m′ : Machine Cached) (fault : ℕ) (k : Counts) → Fit (m .memory) → Steps m fault k m′
+    → Fit (m′ .memory)
 unfolding step cachedSetup cached documentBoard
 steps-fit m m′ fault k F S =
     let s = m .memory in
@@ -219,10 +232,12 @@ steps-fit m m′ fault k F S =
     let prog = instruction documentBoard aesCipher (s .key) M (m .processor) in
     let sound = instruction-sound documentBoard 8 eight-words N M e (m .processor) aesCipher (s .key) in
     rw (S .memory)
-    (good-fit N C (perform (cached aesCipher direct) prog s .state) (perform-good aesCipher aesLaws direct direct-laws N C prog s sound F))
+    (good-fit N C (perform (cached aesCipher direct) prog s .state)
+    (perform-good aesCipher aesLaws direct direct-laws N C prog s sound F))
 
 -- after the fetch the memory is fit
-pub fetched-fit : (p : Processor) (f : ℕ) (s t : Cached) (failed : Bool) (n : ℕ) (k : Counts) → f ≡ fetchFault (length (s .mem)) p → Fit s
+pub fetched-fit : (p : Processor) (f : ℕ) (s t : Cached) (failed : Bool) (n : ℕ) (k : Counts)
+    → f ≡ fetchFault (length (s .mem)) p → Fit s
     → Grants (fetchOf f (p .cem .mode) (p .pc)) s failed n k t → Fit t
 fetched-fit p f s t failed n k e F G =
     let M = length (s .mem) in

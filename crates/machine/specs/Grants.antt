@@ -23,8 +23,16 @@ pub record Grants (wish : Wish) (s : Cached) (failed : Bool) (number : ℕ) (k :
   pub left : t ≡ perform (cached aesCipher direct) (grant wish) s .state
 
 -- the same but for the key, which the code keeps in its record: the buffers are those of the next memory
-pub record Obtains (wish : Wish) (s : Cached) (failed : Bool) (number : ℕ) (k : Counts) (mem macs cache dir : List ℕ) : Type 0 where
-  pub grants : Grants wish s failed number k (record { key = perform (cached aesCipher direct) (grant wish) s .state .key; mem = mem; macs = macs; cache = cache; dir = dir })
+pub record Obtains (wish : Wish) (s : Cached) (failed : Bool) (number : ℕ) (k : Counts)
+    (mem macs cache dir : List ℕ) : Type 0 where
+  pub grants : Grants wish s failed number k
+      (record {
+        key = perform (cached aesCipher direct) (grant wish) s .state .key;
+        mem = mem;
+        macs = macs;
+        cache = cache;
+        dir = dir;
+      })
 
 -- k bytes at an address lie in one line of a memory of M bytes
 pub record Inside (a k M : ℕ) : Type 0 where

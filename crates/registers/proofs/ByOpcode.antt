@@ -11,7 +11,8 @@ use Rattle.instructions.specs.Rules.{pick}
 use Rattle.instructions.specs.Board.{Board}
 use Rattle.instructions.specs.Record.{Processor, reg}
 use Rattle.instructions.specs.Fields.{opcode, fieldA, fieldB, fieldC}
-use Rattle.instructions.specs.Operations.{Ra, Rb, Rc, address, values, value, effects, effect, modes, nextMode, twoWords}
+use Rattle.instructions.specs.Operations.{Ra, Rb, Rc, address, values, value, effects, effect, modes, nextMode}
+use Rattle.instructions.specs.Operations.{twoWords}
 use Rattle.instructions.specs.Wishes.{idle}
 use Rattle.instructions.specs.Step.{wishes, wishFor}
 use Rattle.instructions.proofs.RuleLaws.{Apart, pick-none}
@@ -27,17 +28,23 @@ pub record Reads (regs : List ℕ) (w op i x j y : ℕ) : Type 0 where
   pub x-is : x ≡ getD regs i 0
   pub y-is : y ≡ getD regs j 0
 
-module _ (B : Board) (p : Processor) {w op b c : ℕ} (R : Reads (p .regs) w op (fieldB w) b (fieldC w) c) (loaded : ℕ) where
-  pub value-at : (k v : ℕ) → op ≡ k → v ≡ pick k (values B p w loaded b c) 0 → v ≡ value B p w loaded
-  unfolding value Rb Rc reg
-  value-at k v e h = rw (← (R .op-is), ← (R .x-is), ← (R .y-is), e) h
+pub read : {regs : List ℕ} {w op i x j y : ℕ} → op ≡ opcode w → x ≡ getD regs i 0 → y ≡ getD regs j 0
+    → Reads regs w op i x j y
+read o e f = record { op-is = o; x-is = e; y-is = f }
 
-  pub value-none : Apart op Unit (values B p w loaded b c) → 0 ≡ value B p w loaded
-  unfolding value Rb Rc reg
-  value-none a = rw (← (R .op-is), ← (R .x-is), ← (R .y-is)) (sym (pick-none op Unit (values B p w loaded b c) 0 a))
+module _ (B : Board) (p : Processor) {w op b c : ℕ} (R : Reads (p .regs) w op (fieldB w) b (fieldC w) c) (loaded : ℕ)
+  where
+    pub value-at : (k v : ℕ) → op ≡ k → v ≡ pick k (values B p w loaded b c) 0 → v ≡ value B p w loaded
+    unfolding value Rb Rc reg
+    value-at k v e h = rw (← (R .op-is), ← (R .x-is), ← (R .y-is), e) h
+
+    pub value-none : Apart op Unit (values B p w loaded b c) → 0 ≡ value B p w loaded
+    unfolding value Rb Rc reg
+    value-none a = rw (← (R .op-is), ← (R .x-is), ← (R .y-is)) (sym (pick-none op Unit (values B p w loaded b c) 0 a))
 
 -- the mode
-pub nextMode-at : (p : Processor) (w op k m : ℕ) → op ≡ opcode w → op ≡ k → m ≡ pick k modes (p .cem .mode) → m ≡ nextMode p w
+pub nextMode-at : (p : Processor) (w op k m : ℕ) → op ≡ opcode w → op ≡ k → m ≡ pick k modes (p .cem .mode)
+    → m ≡ nextMode p w
 unfolding nextMode
 nextMode-at p w op k m o e h = rw (← o, e) h
 
@@ -46,7 +53,8 @@ unfolding nextMode
 nextMode-none p w op o a = rw (← o) (sym (pick-none op Unit modes (p .cem .mode) a))
 
 -- the data access
-module _ (B : Board) (c : Cipher) (key : List ℕ) (p : Processor) {w op x y : ℕ} (R : Reads (p .regs) w op (fieldA w) x (fieldB w) y)
+module _ (B : Board) (c : Cipher) (key : List ℕ) (p : Processor) {w op x y : ℕ}
+    (R : Reads (p .regs) w op (fieldA w) x (fieldB w) y)
     {a : ℕ} (a-is : a ≡ address B p w) (q : Wanted) where
   pub granted-at : (k : ℕ) → op ≡ k → Asks 0 (pick k (wishes B a x y) idle) q → Granted B c key p w q
   unfolding wishFor Ra Rb reg
@@ -77,6 +85,7 @@ module _ (c : Cipher) (regs : List ℕ) (q : Special) {w op a b : ℕ} (R : Read
   unfolding effect nextKey Ra Rb reg
   effect-none d n =
       record {
-        record′ = rw (← (R .op-is), ← (R .x-is), ← (R .y-is)) (sym (pick-none op Unit (effects c (keyOf q) p w a b) p n));
+        record′ = rw (← (R .op-is), ← (R .x-is), ← (R .y-is))
+            (sym (pick-none op Unit (effects c (keyOf q) p w a b) p n));
         key′ = rw (← (R .op-is), ne-eqb op 32 d);
       }

@@ -34,7 +34,8 @@ module _ (B : Board) (c : Cipher) (M : ℕ) (key : List ℕ) (p : Processor) (go
   unfolding dataWish
   decides-nothing h e x = record { fault = x .fault ∙ e; wish = rw (← e, ne-eqb n 0 h) (x .wish); tag = x .tag }
 
-  pub decides-something : n ≡ 0 → n ≡ knownFault B M p got → Granted B c key p (got .number) q → Decides B c M key p got q
+  pub decides-something : n ≡ 0 → n ≡ knownFault B M p got → Granted B c key p (got .number) q
+      → Decides B c M key p got q
   unfolding dataWish
   decides-something h e x =
       record { fault = x .fault ∙ (sym h ∙ e); wish = rw (← e, eq-eqb n 0 h) (x .wish); tag = x .tag }

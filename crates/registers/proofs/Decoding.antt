@@ -1,4 +1,5 @@
--- What decoding finds: the tests of the table's entry, an address beyond the memory, and what has no fault below opcode 32.
+-- What decoding finds: the tests of the table's entry, an address beyond the memory, and what has no fault below
+-- opcode 32.
 use Prim.Native.Nat.{ℕ, _+_, _-_, _≤_, _<_}
 use native.Mathlib.Omega.{arith}
 use mathlib.Core.Path.{_≡_, refl, sym, ap, _∙_}
@@ -53,6 +54,7 @@ module _ (B : Board) (M : ℕ) (p : Processor) (w n : ℕ) where
   unfolding decodeFault
   decodeFault-opcode e some = firstOf-first n (opcodeFaults B p w) (addressFaults B M p w) e some
 
-  pub decodeFault-address : firstOf (opcodeFaults B p w) ≡ 0 → n ≡ firstOf (addressFaults B M p w) → n ≡ decodeFault B M p w
+  pub decodeFault-address : firstOf (opcodeFaults B p w) ≡ 0 → n ≡ firstOf (addressFaults B M p w)
+      → n ≡ decodeFault B M p w
   unfolding decodeFault opcodeFaults threadFaults
   decodeFault-address none e = firstOf-second n (opcodeFaults B p w) (addressFaults B M p w) refl none e

@@ -10,7 +10,8 @@ use Rattle.instructions.specs.Rules.{oneOf}
 use Rattle.instructions.specs.Board.{Board}
 use Rattle.instructions.specs.Record.{Processor, withReg, withRegs, withPc, withMode}
 use Rattle.instructions.specs.Fields.{opcode, fieldA}
-use Rattle.instructions.specs.Operations.{Ra, Rb, valueOpcodes, hasValue, value, behind, nextPc, modes, nextMode, taken, effects, effect, executed}
+use Rattle.instructions.specs.Operations.{Ra, Rb, valueOpcodes, hasValue, value, behind, nextPc, modes, nextMode}
+use Rattle.instructions.specs.Operations.{taken, effects, effect, executed}
 use Rattle.instructions.proofs.RuleLaws.{outside, eqb-outside, pick-outside}
 use Rattle.registers.specs.Effects.{nextKey}
 
@@ -50,7 +51,8 @@ module _ (B : Board) (c : Cipher) (key : List ℕ) (p : Processor) (w loaded : �
     nextMode-outside o = pick-outside test op modes (p .cem .mode) h o
 
   -- an opcode that writes a value changes Ra and pc alone
-  pub executed-value : (regs : List ℕ) (pc : ℕ) → hasValue w ≡ true → regs ≡ withReg (fieldA w) (value B p w loaded) (p .regs)
+  pub executed-value : (regs : List ℕ) (pc : ℕ) → hasValue w ≡ true
+      → regs ≡ withReg (fieldA w) (value B p w loaded) (p .regs)
       → pc ≡ behind B (p .pc) (eqb (p .cem .mode) 1) → withRegs regs (withPc pc p) ≡ executed B c key p w loaded
   unfolding hasValue executed nextPc taken
   executed-value regs pc h a b =
@@ -65,14 +67,16 @@ module _ (B : Board) (c : Cipher) (key : List ℕ) (p : Processor) (w loaded : �
       )
 
   -- any other below 12 changes pc alone
-  pub executed-low : (pc : ℕ) → op < 12 → hasValue w ≡ false → pc ≡ nextPc B p w → withPc pc p ≡ executed B c key p w loaded
+  pub executed-low : (pc : ℕ) → op < 12 → hasValue w ≡ false → pc ≡ nextPc B p w
+      → withPc pc p ≡ executed B c key p w loaded
   unfolding executed
   executed-low pc l h b =
       let low : isLow op ≡ true = lt-ltb op 12 l in
       rw (h, ← b, nextMode-outside isLow low refl, effect-outside isLow low refl)
 
   -- the others
-  pub executed-other : (pc m : ℕ) (q : Processor) → hasValue w ≡ false → pc ≡ nextPc B p w → m ≡ nextMode p w → q ≡ effect c key p w
+  pub executed-other : (pc m : ℕ) (q : Processor) → hasValue w ≡ false → pc ≡ nextPc B p w → m ≡ nextMode p w
+      → q ≡ effect c key p w
       → withRegs (p .regs) (withPc pc (withMode m q)) ≡ executed B c key p w loaded
   unfolding executed
   executed-other pc m q h a b e = rw (h, a, b, e)

@@ -17,10 +17,12 @@ use Rattle.instructions.specs.Step.{knownFault, finished}
 use Rattle.registers.specs.Effects.{Holds, Returns, Finishes, nextKey}
 use Rattle.registers.specs.declared.record.Special.{Special}
 
-module _ (B : Board) (c : Cipher) (M : ℕ) (key : List ℕ) (p : Processor) (fetched failed : Bool) (w loaded known : ℕ) (regs : List ℕ) (q : Special)
+module _ (B : Board) (c : Cipher) (M : ℕ) (key : List ℕ) (p : Processor) (fetched failed : Bool) (w loaded known : ℕ)
+    (regs : List ℕ) (q : Special)
     (k : known ≡ knownFault B M p (record { failed = fetched; number = w })) where
   abbrev Ends : ℕ → Type 0
-  Ends n = Finishes B c M key p (record { failed = fetched; number = w }) (record { failed = failed; number = loaded }) n regs q
+  Ends n = Finishes B c M key p (record { failed = fetched; number = w })
+      (record { failed = failed; number = loaded }) n regs q
 
   pub finishes-known : (known ≡ 0 → ⊥) → Holds (entered B c key known p) key regs q → Ends known
   unfolding finished
@@ -34,9 +36,14 @@ module _ (B : Board) (c : Cipher) (M : ℕ) (key : List ℕ) (p : Processor) (fe
   pub finishes-failed : known ≡ 0 → failed ≡ true → Holds (entered B c key 5 p) key regs q → Ends 5
   unfolding finished lateFault
   finishes-failed h f H =
-      record { number = rw (← k, eq-eqb known 0 h, f); holds = rw (← k, eq-eqb known 0 h, f) (H .record′); drk = H .key′ }
+      record {
+        number = rw (← k, eq-eqb known 0 h, f);
+        holds = rw (← k, eq-eqb known 0 h, f) (H .record′);
+        drk = H .key′;
+      }
 
-  pub finishes-done : known ≡ 0 → failed ≡ false → (opcode w ≡ 16 → ⊥) → Holds (executed B c key p w loaded) (nextKey key p w) regs q → Ends 0
+  pub finishes-done : known ≡ 0 → failed ≡ false → (opcode w ≡ 16 → ⊥)
+      → Holds (executed B c key p w loaded) (nextKey key p w) regs q → Ends 0
   unfolding finished lateFault
   finishes-done h f o H =
       record {

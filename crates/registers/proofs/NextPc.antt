@@ -35,7 +35,8 @@ module _ (B : Board) (p : Processor) {w op a b : ℕ} (R : Reads (p .regs) w op 
   unfolding nextPc taken target Ra Rb reg
   nextPc-jr e = rw (← (R .op-is), ← (R .x-is), e)
 
-  pub nextPc-beq : {i j k n : ℕ} → (eqb op 8 && eqb a b) ≡ true → i ≡ imm B w → j ≡ (i + i) % modulus B → k ≡ (j + j) % modulus B
+  pub nextPc-beq : {i j k n : ℕ} → (eqb op 8 && eqb a b) ≡ true → i ≡ imm B w → j ≡ (i + i) % modulus B
+      → k ≡ (j + j) % modulus B
       → n ≡ (p .pc + k) % modulus B → n ≡ nextPc B p w
   unfolding nextPc taken target Ra Rb reg
   nextPc-beq {j = j} t i-is j-is k-is n-is =

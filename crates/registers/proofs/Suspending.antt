@@ -8,7 +8,8 @@ use Rattle.lists.specs.Bytes.{same}
 use Rattle.model.specs.Cipher.{Cipher}
 use Rattle.instructions.specs.Board.{Board}
 use Rattle.instructions.specs.Record.{Processor, withRegs, withPc, withEpc, withCause, withMode, withSaved, active}
-use Rattle.instructions.specs.Suspend.{hashOf, hidden, savedOf, suspended, entered, resumes, restored, hashRight, returned}
+use Rattle.instructions.specs.Suspend.{hashOf, hidden, savedOf, suspended, entered, resumes, restored, hashRight}
+use Rattle.instructions.specs.Suspend.{returned}
 use Rattle.registers.specs.Map.{processorOf, keyOf}
 use Rattle.registers.specs.Effects.{Holds, Returns}
 use Rattle.registers.specs.declared.record.Special.{Special}
@@ -20,16 +21,20 @@ module _ (B : Board) (c : Cipher) (key : List ℕ) (n : ℕ) (p : Processor) whe
   entered-passive h = rw (ne-eqb (p .cem .mode) 1 h)
 
   -- an active one is: hash, then hide
-  pub entered-active : (hash regs : List ℕ) → p .cem .mode ≡ 1 → hash ≡ hashOf B c key (p .regs) → regs ≡ hidden B c key hash (p .regs)
-      → withPc 64 (withEpc (p .pc) (withCause n (withRegs regs (withMode 2 (withSaved (savedOf hash p) p))))) ≡ entered B c key n p
+  pub entered-active : (hash regs : List ℕ) → p .cem .mode ≡ 1 → hash ≡ hashOf B c key (p .regs)
+      → regs ≡ hidden B c key hash (p .regs)
+      → withPc 64 (withEpc (p .pc) (withCause n
+      (withRegs regs (withMode 2 (withSaved (savedOf hash p) p))))) ≡ entered B c key n p
   unfolding entered suspended active
   entered-active hash regs h a b = rw (eq-eqb (p .cem .mode) 1 h, b, a)
 
 -- rfi without a match
-pub returns-jump : (B : Board) (c : Cipher) (key : List ℕ) (p : Processor) (n : ℕ) (regs : List ℕ) (q : Special) → false ≡ resumes p → n ≡ 0
+pub returns-jump : (B : Board) (c : Cipher) (key : List ℕ) (p : Processor) (n : ℕ) (regs : List ℕ) (q : Special)
+    → false ≡ resumes p → n ≡ 0
     → processorOf regs q ≡ withPc (p .epc) p → keyOf q ≡ key → Returns B c key p n regs q
 unfolding returned
-returns-jump B c key p n regs q h e r k = record { number = rw (← h) e; holds = rw (← h) (record { record′ = r; key′ = k }) }
+returns-jump B c key p n regs q h e r k =
+    record { number = rw (← h) e; holds = rw (← h) (record { record′ = r; key′ = k }) }
 
 -- and with one, where the registers brought back have the right hash or not
 module _ (B : Board) (c : Cipher) (key : List ℕ) (p : Processor) (back again : List ℕ) (right : Bool)

@@ -28,7 +28,8 @@ set-no-word a b c d i x n =
     no-word-four i n (λ (j : ℕ). set (a ∷ b ∷ c ∷ d ∷ []) j x ≡ a ∷ b ∷ c ∷ d ∷ []) (λ k. refl)
 
 -- gr.get past the four words sets nothing
-pub set-pair-no-word : (a b c d i x y : ℕ) → NoWord i → a ∷ b ∷ c ∷ d ∷ [] ≡ set (set (a ∷ b ∷ c ∷ d ∷ []) (i + 1) x) i y
+pub set-pair-no-word : (a b c d i x y : ℕ) → NoWord i
+    → a ∷ b ∷ c ∷ d ∷ [] ≡ set (set (a ∷ b ∷ c ∷ d ∷ []) (i + 1) x) i y
 set-pair-no-word a b c d i x y n =
     let next : NoWord (i + 1) =
     (λ e. omega arith, λ e. n .0 (omega arith), λ e. n .1 (omega arith), λ e. n .2 (omega arith)) in

@@ -37,7 +37,8 @@ nextKey key p w = if (eqb (opcode w) 32) (keyFrom p w) key
 
 module _ (B : Board) (c : Cipher) where
   -- the end of a step: its fault and record, and the DRK where it has none
-  pub record Finishes (M : ℕ) (key : List ℕ) (p : Processor) (got data′ : Got) (n : ℕ) (regs : List ℕ) (q : Special) : Type 0 where
+  pub record Finishes (M : ℕ) (key : List ℕ) (p : Processor) (got data′ : Got) (n : ℕ) (regs : List ℕ)
+      (q : Special) : Type 0 where
     pub number : n ≡ finished B c key M p got data′ .fault
     pub holds : processorOf regs q ≡ finished B c key M p got data′ .processor
     pub drk : keyOf q ≡ if (eqb n 0) (nextKey key p (got .number)) key

@@ -1,4 +1,5 @@
--- How the code's record is read: R0 to R31 and the other registers as the processor's record of the meaning; the DRK goes to the memory.
+-- How the code's record is read: R0 to R31 and the other registers as the processor's record of the meaning; the DRK
+-- goes to the memory.
 use Prim.Native.Nat.{ℕ}
 use mathlib.Core.List.{List, [], _∷_}
 use Rattle.instructions.specs.Record.{Processor}

@@ -5,7 +5,8 @@ ghost use Rattle.sealing.specs.Lines.{drkOf};
 ghost use Rattle.registers.specs.Map.{processorOf, keyOf};
 ghost use Rattle.registers.specs.Effects.{Holds};
 
-// pc, EPC, cause, PID, CID, CEM_Mode, DRK_Lock, DRK, SRH, CEM_Buffer, Interrupt_Hash, Interrupt_Address, saved PID and saved CID.
+// pc, EPC, cause, PID, CID, CEM_Mode, DRK_Lock, DRK, SRH, CEM_Buffer, Interrupt_Hash, Interrupt_Address, saved PID
+// and saved CID.
 #[repr(C)]
 pub struct Special {
     pub pc: u64,

@@ -1,6 +1,8 @@
--- Every instruction's program is sound: its requests name lines of memory, keep lines lines and change no signed code. No hypothesis on the program in memory.
+-- Every instruction's program is sound: its requests name lines of memory, keep lines lines and change no signed
+-- code. No hypothesis on the program in memory.
 use Prim.Native.Nat.{ℕ, zero, suc, _+_, _*_, _/_, _%_, _<_, _≤_}
-use native.Mathlib.Nat.{mod-add-div', mul-assoc, add-mul-mod-self-right, mul-le-mul-right, suc-mul, mul-zero, lt-of-mul-lt-mul-right}
+use native.Mathlib.Nat.{mod-add-div', mul-assoc, add-mul-mod-self-right, mul-le-mul-right, suc-mul, mul-zero}
+use native.Mathlib.Nat.{lt-of-mul-lt-mul-right}
 use native.Mathlib.Omega.{arith}
 use mathlib.Core.Path.{_≡_, refl, sym, ap, _∙_, subst}
 use mathlib.Core.Bool.{Bool, true, false, not, _&&_, false≢true}
@@ -26,11 +28,13 @@ use Rattle.instructions.specs.Fields.{opcode}
 use Rattle.instructions.specs.Operations.{Ra, Rb, address, keyFrom}
 use Rattle.instructions.specs.Faults.{fetchFault, threadFaults, opcodeFaults, addressFaults, decodeFault, hasAddress}
 use Rattle.instructions.specs.Wishes.{Wish, idle, word, newKey, Got, grant}
-use Rattle.instructions.specs.Step.{Stepped, fetchOf, fetchWish, knownFault, wishes, wishFor, dataWish, finished, instruction}
+use Rattle.instructions.specs.Step.{Stepped, fetchOf, fetchWish, knownFault, wishes, wishFor, dataWish, finished}
+use Rattle.instructions.specs.Step.{instruction}
 use Rattle.instructions.proofs.RuleLaws.{firstOf-none, firstOf-neither, pick-each}
 
 -- a program and then another are sound if both are
-pub sound-then : {A B : Type 0} (N : ℕ) (p : Prog A) (f : A → Prog B) → Sound N p → ((a : A) → Sound N (f a)) → Sound N (andThen p f)
+pub sound-then : {A B : Type 0} (N : ℕ) (p : Prog A) (f : A → Prog B) → Sound N p → ((a : A) → Sound N (f a))
+    → Sound N (andThen p f)
 unfolding andThen
 sound-then N (ret a) f sound-ret g = g a
 sound-then N (ask q k) f (sound-ask h s) g = sound-ask h (λ r. sound-then N (k r) f (s r) g)
@@ -38,7 +42,8 @@ sound-then N (ask q k) f (sound-ask h s) g = sound-ask h (λ r. sound-then N (k 
 -- what is asked of a wish
 pub data FairWish (N : ℕ) : Wish → Type 0 where
   fair-idle : FairWish N idle
-  fair-word : {tag : Tag} {a k : ℕ} {write : Bool} {v : ℕ} → a / 64 < N → a % 64 + k ≤ 64 → (write ≡ true → tag ≡ secureInstruction → ⊥) → FairWish N (word tag a k write v)
+  fair-word : {tag : Tag} {a k : ℕ} {write : Bool} {v : ℕ} → a / 64 < N → a % 64 + k ≤ 64
+      → (write ≡ true → tag ≡ secureInstruction → ⊥) → FairWish N (word tag a k write v)
   fair-newKey : {key : List ℕ} → Sized 16 key → FairWish N (newKey key)
 
 pub grant-sound : (N : ℕ) (wish : Wish) → FairWish N wish → Sound N (grant wish)
@@ -65,7 +70,8 @@ fetch-fair N M r e =
     let z : fetchFault M r ≡ 0 = eqb-true (fetchFault M r) 0 h in
     let rest : List (Bool × ℕ) = (leb M (r .pc), 10) ∷ (active r && leb 48 (r .pc % 64), 4) ∷ [] in
     let a = firstOf-none (not (eqb (r .pc % 4) 0)) 9 (firstOf rest) (λ q. omega arith) z in
-    let b = firstOf-none (leb M (r .pc)) 10 (firstOf ((active r && leb 48 (r .pc % 64), 4) ∷ [])) (λ q. omega arith) (a .1) in
+    let b = firstOf-none (leb M (r .pc)) 10 (firstOf ((active r && leb 48 (r .pc % 64), 4) ∷ [])) (λ q. omega arith)
+    (a .1) in
     let four : r .pc % 4 ≡ 0 = eqb-true (r .pc % 4) 0 (not-false (eqb (r .pc % 4) 0) (a .0)) in
     let inside : r .pc < M = leb-false M (r .pc) (b .0) in
     let line : r .pc / 64 < N = omega arith in
@@ -121,8 +127,10 @@ module _ (B : Board) (words : ℕ) (whole : words * B .wordBytes ≡ 64) (N M : 
   key-fair : (w : ℕ) → Sized 16 (keyFrom r w)
   key-fair w =
       record {
-        size = length-append (bigBytes 8 (Ra r w)) (bigBytes 8 (Rb r w)) ∙ rw (length-bigBytes 8 (Ra r w), length-bigBytes 8 (Rb r w));
-        bytes = bytes-append (bigBytes 8 (Ra r w)) (bigBytes 8 (Rb r w)) (bytes-bigBytes 8 (Ra r w)) (bytes-bigBytes 8 (Rb r w));
+        size = length-append (bigBytes 8 (Ra r w)) (bigBytes 8 (Rb r w)) ∙ rw
+            (length-bigBytes 8 (Ra r w), length-bigBytes 8 (Rb r w));
+        bytes = bytes-append (bigBytes 8 (Ra r w)) (bigBytes 8 (Rb r w)) (bytes-bigBytes 8 (Ra r w))
+            (bytes-bigBytes 8 (Rb r w));
       }
 
   -- without a known fault, nothing was found in decoding
@@ -151,7 +159,10 @@ module _ (B : Board) (words : ℕ) (whole : words * B .wordBytes ≡ 64) (N M : 
             λ e. fair-newKey (key-fair w),
             (
               λ e. word-fair w z (has-address w 41 e refl) secureData false 0 (λ p. absurd (false≢true p)),
-              (λ e. word-fair w z (has-address w 42 e refl) secureData true (Ra r w) (λ p. not-code secureData refl), tt {0}),
+              (
+                λ e. word-fair w z (has-address w 42 e refl) secureData true (Ra r w) (λ p. not-code secureData refl),
+                tt {0},
+              ),
             ),
           ),
         ),
@@ -172,4 +183,5 @@ module _ (B : Board) (words : ℕ) (whole : words * B .wordBytes ≡ 64) (N M : 
         let end : Got → Got → Prog Stepped = λ got data′. ret (finished B c key M r got data′) in
         sound-then N (grant (fetchWish M r)) (λ got. andThen (grant (dataWish B c key M r got)) (end got))
         (grant-sound N (fetchWish M r) (fetch-fair N M r e))
-        (λ got. sound-then N (grant (dataWish B c key M r got)) (end got) (grant-sound N (dataWish B c key M r got) (data-fair got)) (λ data′. sound-ret))
+        (λ got. sound-then N (grant (dataWish B c key M r got)) (end got)
+        (grant-sound N (dataWish B c key M r got) (data-fair got)) (λ data′. sound-ret))

@@ -21,7 +21,8 @@ unfolding orElse
 or-else-zero a b z = by-test (eqb a 0) (λ h. rw h at z) (λ h. absurd (eqb-false a 0 h (rw h at z)))
 
 -- a line that is not refused is a line of memory
-pub line-in : (N M n : ℕ) (rest : List (Bool × ℕ)) → M ≡ N * 64 → firstOf (lineFlaws M n ++ rest) ≡ 0 → (n < N) × (firstOf rest ≡ 0)
+pub line-in : (N M n : ℕ) (rest : List (Bool × ℕ)) → M ≡ N * 64 → firstOf (lineFlaws M n ++ rest) ≡ 0
+    → (n < N) × (firstOf rest ≡ 0)
 unfolding lineFlaws
 line-in N M n rest e z =
     let a = firstOf-none (leb (M / 64) n) 106 (firstOf rest) (λ q. omega arith) z in
@@ -37,8 +38,10 @@ buffer-sized k x z b =
     record { size = eqb-true (length x) k (not-false (eqb (length x) k) (a .0)); bytes = b }
 
 -- a call that is not refused is not refused for its line, buffer or n
-pub none-refused : {S : Type 0} (H : Setup S) (call : Call) (m : Machine S) → refusal H call m ≡ 0 → firstOf (callFlaws (H .memory .size (m .memory)) call) ≡ 0
+pub none-refused : {S : Type 0} (H : Setup S) (call : Call) (m : Machine S) → refusal H call m ≡ 0
+    → firstOf (callFlaws (H .memory .size (m .memory)) call) ≡ 0
 unfolding refusal
 none-refused H call m z =
     let f = firstOf (callFlaws (H .memory .size (m .memory)) call) in
-    or-else-zero (firstOf (recordFlaws (m .processor))) f (or-else-zero (firstOf (H .flaws (m .memory))) (orElse (firstOf (recordFlaws (m .processor))) f) z)
+    or-else-zero (firstOf (recordFlaws (m .processor))) f
+    (or-else-zero (firstOf (H .flaws (m .memory))) (orElse (firstOf (recordFlaws (m .processor))) f) z)

@@ -30,7 +30,9 @@ fetch-requires c κs =
 
 decide-requires : tie.Need-decide-requires
 decide-requires c κs =
-    let at-fault = c .before .before .before .before .before .before .before .before .before .before .before .before .before .before in
+    let at-fault =
+    c .before .before .before .before .before .before .before .before .before .before .before .before .before
+    .before in
     let start = at-start at-fault in
     (start .pre .0, (at-fault .fetch-fault .ensures, omega (arith, start .pre .1 .0)))
 
@@ -42,7 +44,8 @@ access-requires c κs =
     let fit = at-start at-fault .pre .1 .1 in (
       fetched-fit _ _ _ _ _ _ _ (at-fault .fetch-fault .ensures) fit (fetched .fetch .ensures),
       (
-        λ k. rw (fetched .fetch .kept .1 .1 .0) (data-inside _ _ _ _ _ (omega (arith, fit .mem)) (decided .decide .ensures) k),
+        λ k. rw (fetched .fetch .kept .1 .1 .0)
+            (data-inside _ _ _ _ _ (omega (arith, fit .mem)) (decided .decide .ensures) k),
         decided .decide .ensures .tag,
       ),
     )
@@ -55,12 +58,25 @@ add-requires c κs =
     let b = grants-small _ _ _ _ _ _ (accessed .access .ensures .grants) in
     let g = at-start (at-fetch-fault fetched) .good .1 .1 .1 .1 .1 .1 .0 .1 in
     let h = fetched .fetch .kept .1 .1 .1 .1 .1 .0 in (
-      (omega (arith, a .filled, g), omega (arith, a .written, g), omega (arith, a .checked, g), omega (arith, a .made, g)),
-      (omega (arith, b .filled, g, h), omega (arith, b .written, g, h), omega (arith, b .checked, g, h), omega (arith, b .made, g, h)),
+      (
+        omega (arith, a .filled, g),
+        omega (arith, a .written, g),
+        omega (arith, a .checked, g),
+        omega
+            (arith, a .made, g),
+      ),
+      (
+        omega (arith, b .filled, g, h),
+        omega (arith, b .written, g, h),
+        omega (arith, b .checked, g, h),
+        omega
+            (arith, b .made, g, h),
+      ),
     )
 
 finish-requires : tie.Need-finish-requires
-finish-requires c κs = at-decide (c .before .before .before .before .before .before .before .before .before .before) .decide .ensures .fault
+finish-requires c κs = at-decide
+    (c .before .before .before .before .before .before .before .before .before .before) .decide .ensures .fault
 
 same-length : tie.Need-same-length
 same-length c =
@@ -88,7 +104,8 @@ returns c =
     let accessed = at-access added in
     let decided = at-decide accessed in
     let fetched = at-fetch decided in
-    stepped _ _ _ _ _ _ _ _ _ _ _ _ _ _ _ _ _ _ _ _ _ _ _ (at-fetch-fault fetched .fetch-fault .ensures) refl (fetched .fetch .ensures)
+    stepped _ _ _ _ _ _ _ _ _ _ _ _ _ _ _ _ _ _ _ _ _ _ _ (at-fetch-fault fetched .fetch-fault .ensures) refl
+    (fetched .fetch .ensures)
     (decided .decide .ensures) (accessed .access .ensures) (added .add .ensures) (c .before .finish .ensures)
 
 pub step-spec : {M : Type 1} → statement M

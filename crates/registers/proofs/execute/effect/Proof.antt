@@ -2,15 +2,18 @@
 use mathlib.Core.Path.{refl}
 use Rattle.instructions.specs.Fields.{fieldA, fieldB}
 use Rattle.sealing.specs.Lines.{drkOf}
-use Rattle.registers.proofs.ByOpcode.{Reads, effect-at, effect-none}
+use Rattle.registers.proofs.ByOpcode.{Reads, read, effect-at, effect-none}
 use borrow.Author.Needs.{needs}
 use Rattle.registers.proofs.execute.effect.Statement.{statement}
 use Rattle.registers.proofs.execute.effect.Tie as tie
 
 -- what was read where the match begins
-reads : (m : tie.After-word-b) → let args = m .before .before .before .args in
-    Reads (args .r .now) (args .w) (m .before .before .opcode .result) (fieldA (args .w)) (m .before .word-a .result) (fieldB (args .w)) (m .word-b .result)
-reads m = record { op-is = m .before .before .opcode .ensures .0; x-is = m .before .word-a .ensures; y-is = m .word-b .ensures }
+reads : (m : tie.After-word-b) →
+    let at-opcode = m .before .before in
+    let w = at-opcode .before .args .w in
+    Reads (at-opcode .before .args .r .now) w (at-opcode .opcode .result)
+    (fieldA w) (m .before .word-a .result) (fieldB w) (m .word-b .result)
+reads m = read (m .before .before .opcode .ensures .0) (m .before .word-a .ensures) (m .word-b .ensures)
 
 returns-3 : tie.Need-returns-3
 unfolding drkOf

@@ -1,6 +1,7 @@
 -- `registers::execute::execute` meets its promise.
-use mathlib.Core.Path.{_≡_, sym, _∙_}
+use mathlib.Core.Path.{_≡_, sym, ap₂, _∙_}
 use mathlib.Core.Bool.{false}
+use Rattle.instructions.specs.Record.{withReg}
 use Rattle.instructions.specs.Operations.{hasValue}
 use Rattle.registers.proofs.Executing.{executed-value, nextKey-value, executed-low, nextKey-low, executed-other}
 use borrow.Author.Needs.{needs}
@@ -11,8 +12,10 @@ returns : tie.Need-returns
 returns c =
     let at-if1 = c .before .before .before .before .before .before .before in
     let has = sym (at-if1 .before .has-value .ensures) ∙ at-if1 .if1 .taken in
-    let written = c .before .before .set-register .ensures in
-    let read = rw (c .before .before .before .before .field-a .ensures .0, c .before .before .before .before .before .value .ensures) at written in
+    let at-field = c .before .before .before .before in
+    let kept = at-if1 .before .before .args .r .now in
+    let written = ap₂ (λ n v. withReg n v kept) (at-field .field-a .ensures .0) (at-field .before .value .ensures) in
+    let read = c .before .before .set-register .ensures ∙ written in
     record {
       record′ = executed-value _ _ _ _ _ _ _ _ has read (c .behind .ensures);
       key′ = nextKey-value _ _ _ has;

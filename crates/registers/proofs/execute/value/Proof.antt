@@ -1,18 +1,24 @@
 -- `registers::execute::value` meets its promise.
 use mathlib.Core.Path.{refl, _∙_, ap}
 use Rattle.instructions.specs.Fields.{fieldB, fieldC}
-use Rattle.registers.proofs.ByOpcode.{Reads, value-at, value-none}
+use Rattle.registers.proofs.ByOpcode.{Reads, read, value-at, value-none}
 use borrow.Author.Needs.{needs}
 use Rattle.registers.proofs.execute.value.Statement.{statement}
 use Rattle.registers.proofs.execute.value.Tie as tie
 
 -- what was read where the match begins
-reads : (m : tie.After-word-c) → let args = m .before .before .before .args in
-    Reads (args .r .now) (args .w) (m .before .before .opcode .result) (fieldB (args .w)) (m .before .word-b .result) (fieldC (args .w)) (m .word-c .result)
-reads m = record { op-is = m .before .before .opcode .ensures .0; x-is = m .before .word-b .ensures; y-is = m .word-c .ensures }
+reads : (m : tie.After-word-c) →
+    let at-opcode = m .before .before in
+    let w = at-opcode .before .args .w in
+    Reads (at-opcode .before .args .r .now) w (at-opcode .opcode .result)
+    (fieldB w) (m .before .word-b .result) (fieldC w) (m .word-c .result)
+reads m = read (m .before .before .opcode .ensures .0) (m .before .word-b .ensures) (m .word-c .ensures)
 
 returns-6 : tie.Need-returns-6
-returns-6 c = value-at _ _ (reads (c .before .before .before)) _ 6 _ (c .before .before .match .keys6) (c .plus2 .ensures ∙ (rw (c .before .imm .ensures)))
+returns-6 c =
+    let at-match = c .before .before in
+    value-at _ _ (reads (at-match .before)) _ 6 _ (at-match .match .keys6)
+    (c .plus2 .ensures ∙ (rw (c .before .imm .ensures)))
 
 pub value-spec : {M : Type 1} → statement M
 value-spec =

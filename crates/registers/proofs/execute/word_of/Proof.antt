@@ -18,8 +18,9 @@ returns-4 c = rw (← (c .before .before .before .before .sel .ensures), c .if4 
 
 returns-5 : tie.Need-returns-5
 returns-5 c =
+    let at-if2 = c .before .before in
     rw (← (c .before .before .before .before .sel .ensures))
-    (getD-no-word _ _ _ _ _ (c .before .before .before .if1 .left, c .before .before .if2 .left, c .before .if3 .left, c .if4 .left))
+    (getD-no-word _ _ _ _ _ (at-if2 .before .if1 .left, at-if2 .if2 .left, c .before .if3 .left, c .if4 .left))
 
 pub word-of-spec : {M : Type 1} → statement M
 word-of-spec = tie.close (tie.spec (λ c κs. search needs) returns returns-2 returns-3 returns-4 returns-5)

@@ -13,29 +13,23 @@ returns c = rw (← (c .before .opcode .ensures .0), eq-eqb _ 10 (c .if1 .taken)
 
 returns-2 : tie.Need-returns-2
 unfolding hasAddress
-returns-2 c = rw (← (c .before .before .opcode .ensures .0), ne-eqb _ 10 (c .before .if1 .left), eq-eqb _ 11 (c .if2 .taken))
+returns-2 c =
+    let at-if1 = c .before in
+    rw (← (at-if1 .before .opcode .ensures .0), ne-eqb _ 10 (at-if1 .if1 .left), eq-eqb _ 11 (c .if2 .taken))
 
 returns-3 : tie.Need-returns-3
 unfolding hasAddress
 returns-3 c =
     let at-if2 = c .before in
-    rw (
-      ← (at-if2 .before .before .opcode .ensures .0),
-      ne-eqb _ 10 (at-if2 .before .if1 .left),
-      ne-eqb _ 11 (at-if2 .if2 .left),
-      eq-eqb _ 41 (c .if3 .taken),
-    )
+    let op = at-if2 .before .before .opcode .ensures .0 in
+    rw (← op, ne-eqb _ 10 (at-if2 .before .if1 .left), ne-eqb _ 11 (at-if2 .if2 .left), eq-eqb _ 41 (c .if3 .taken))
 
 returns-4 : tie.Need-returns-4
 unfolding hasAddress
 returns-4 c =
     let at-if2 = c .before in
-    rw (
-      ← (at-if2 .before .before .opcode .ensures .0),
-      ne-eqb _ 10 (at-if2 .before .if1 .left),
-      ne-eqb _ 11 (at-if2 .if2 .left),
-      ne-eqb _ 41 (c .if3 .left),
-    )
+    let op = at-if2 .before .before .opcode .ensures .0 in
+    rw (← op, ne-eqb _ 10 (at-if2 .before .if1 .left), ne-eqb _ 11 (at-if2 .if2 .left), ne-eqb _ 41 (c .if3 .left))
     (sym (or-false _))
 
 pub has-address-spec : {M : Type 1} → statement M

@@ -12,14 +12,17 @@ use Rattle.registers.proofs.faults.opcode_fault.Tie as tie
 
 returns : tie.Need-returns
 unfolding opcodeFaults documentBoard exists needsActive active
-returns c = rw (← c .before .before .before .pre, ← c .before .before .opcode .ensures .0) (if-taken _ _ _ (entry-none _ (c .if1 .taken)))
+returns c =
+    rw (← c .before .before .before .pre, ← c .before .before .opcode .ensures .0)
+    (if-taken _ _ _ (entry-none _ (c .if1 .taken)))
 
 returns-2 : tie.Need-returns-2
 unfolding opcodeFaults documentBoard exists needsActive active
 returns-2 c =
     let at-if1 = c .before .before .before in
     rw (← at-if1 .before .before .before .pre, ← at-if1 .before .before .opcode .ensures .0)
-    (if-left _ _ _ _ (entry-some _ (at-if1 .if1 .left)) (if-taken _ _ _ (sym (c .before .both .ensures) ∙ c .if2 .taken)))
+    (if-left _ _ _ _ (entry-some _ (at-if1 .if1 .left))
+    (if-taken _ _ _ (sym (c .before .both .ensures) ∙ c .if2 .taken)))
 
 returns-3 : tie.Need-returns-3
 unfolding opcodeFaults documentBoard exists needsActive active

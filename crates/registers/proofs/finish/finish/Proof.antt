@@ -6,12 +6,16 @@ use Rattle.registers.proofs.finish.finish.Statement.{statement}
 use Rattle.registers.proofs.finish.finish.Tie as tie
 
 returns : tie.Need-returns
-returns c = finishes-known _ _ _ _ _ _ _ _ _ _ _ _ (c .before .before .before .pre) (c .before .before .if1 .taken) (c .enter .ensures)
+returns c =
+    let at-if1 = c .before .before in
+    finishes-known _ _ _ _ _ _ _ _ _ _ _ _ (at-if1 .before .pre) (at-if1 .if1 .taken) (c .enter .ensures)
 
 returns-2 : tie.Need-returns-2
 returns-2 c =
     let at-if2 = c .before .before in
-    finishes-failed _ _ _ _ _ _ _ _ _ _ _ _ (at-if2 .before .before .pre) (at-if2 .before .if1 .left) (at-if2 .if2 .taken) (c .enter2 .ensures)
+    finishes-failed _ _ _ _ _ _ _ _ _ _ _ _ (at-if2 .before .before .pre) (at-if2 .before .if1 .left)
+    (at-if2 .if2 .taken)
+    (c .enter2 .ensures)
 
 returns-3 : tie.Need-returns-3
 returns-3 c =

@@ -9,10 +9,9 @@ use Rattle.registers.proofs.special.drk_derive.Tie as tie
 returns : tie.Need-returns
 unfolding derived aesCipher
 returns c =
-    record {
-      record′ = λ regs. rw (← (c .before .before .before .before .derive .ensures), ← (c .before .before .word-at .ensures), ← (c .word-at2 .ensures));
-      key′ = refl;
-    }
+    let at-word = c .before .before in
+    let mac = at-word .before .before .derive .ensures in
+    record { record′ = λ regs. rw (← mac, ← (at-word .word-at .ensures), ← (c .word-at2 .ensures)); key′ = refl }
 
 pub drk-derive-spec : {M : Type 1} → statement M
 drk-derive-spec =

@@ -16,7 +16,8 @@ unfolding hashOf hidden aesCipher documentBoard
 returns-2 c =
     let at-hash = c .before .before .before .before in
     let hidden-by = c .replace .ensures ∙ c .before .before .hide .ensures in
-    record { record′ = entered-active _ _ _ _ _ _ _ (at-hash .before .before .if1 .left) (at-hash .hash .ensures) hidden-by; key′ = refl }
+    let active = at-hash .before .before .if1 .left in
+    record { record′ = entered-active _ _ _ _ _ _ _ active (at-hash .hash .ensures) hidden-by; key′ = refl }
 
 pub enter-spec : {M : Type 1} → statement M
 enter-spec =

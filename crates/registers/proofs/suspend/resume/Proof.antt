@@ -13,7 +13,8 @@ unfolding hashOf hidden aesCipher documentBoard
 returns c =
     let at-same = c .before .before .before in
     let at-hide = at-same .before .before .before .before in
-    returns-right _ _ _ _ _ _ _ (at-hide .hide .ensures) (at-same .before .before .before .hash .ensures) (at-same .same .ensures) _ _ _
+    let at-hash = at-same .before .before .before in
+    returns-right _ _ _ _ _ _ _ (at-hide .hide .ensures) (at-hash .hash .ensures) (at-same .same .ensures) _ _ _
     (at-hide .before .before .before .before .pre) (c .before .before .if1 .taken) refl (c .replace .ensures) refl refl
 
 returns-2 : tie.Need-returns-2
@@ -21,7 +22,8 @@ unfolding hashOf hidden aesCipher documentBoard
 returns-2 c =
     let at-same = c .before .before .before in
     let at-hide = at-same .before .before .before .before in
-    returns-wrong _ _ _ _ _ _ _ (at-hide .hide .ensures) (at-same .before .before .before .hash .ensures) (at-same .same .ensures) _ _ _
+    let at-hash = at-same .before .before .before in
+    returns-wrong _ _ _ _ _ _ _ (at-hide .hide .ensures) (at-hash .hash .ensures) (at-same .same .ensures) _ _ _
     (at-hide .before .before .before .before .pre) (c .before .before .if1 .left) refl (c .enter .ensures)
 
 pub resume-spec : {M : Type 1} → statement M
