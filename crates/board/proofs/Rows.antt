@@ -1,4 +1,5 @@
--- A row that is filled record by record from the first on, as far as the plan says, is what the meaning's listing gives.
+-- A row that is filled record by record from the first on, as far as the plan says, is what the meaning's listing
+-- gives.
 use mathlib.Core.Path.{_≡_, refl, sym, ap, subst, _∙_}
 use Prim.Native.Nat.{ℕ, zero, suc, _+_, _≤_, zero-le}
 use native.Mathlib.Nat.{le-refl}
@@ -34,7 +35,8 @@ module _ {X : Type 0} where
   length-written f zero ys = refl
   length-written f (suc i) ys = length-set (written f i ys) i (f i) ∙ length-written f i ys
 
-  written-first : (f : ℕ → X) (i : ℕ) (y : X) (ys : List X) → written f (suc i) (y ∷ ys) ≡ f zero ∷ written (λ (j : ℕ). f (suc j)) i ys
+  written-first : (f : ℕ → X) (i : ℕ) (y : X) (ys : List X) → written f (suc i) (y ∷ ys) ≡ f zero
+      ∷ written (λ (j : ℕ). f (suc j)) i ys
   written-first f zero y ys = refl
   written-first f (suc i) y ys = ap (λ (l : List X). set l (suc i) (f (suc i))) (written-first f i y ys)
 
@@ -43,15 +45,18 @@ abbrev pub rowAt : Placement → List ℕ → ℕ → LineRecord
 rowAt P dir i = rowOf (P .look dir i)
 
 module _ (P : Placement) (dir : List ℕ) where
-  filled-from : (p : ℕ) (f : ℕ → LineRecord) (ys : List LineRecord) → ((i : ℕ) → f i ≡ rowAt P dir (p + i)) → written f (length ys) ys ≡ map rowOf (entriesFrom P dir (length ys) p)
+  filled-from : (p : ℕ) (f : ℕ → LineRecord) (ys : List LineRecord) → ((i : ℕ) → f i ≡ rowAt P dir (p + i))
+      → written f (length ys) ys ≡ map rowOf (entriesFrom P dir (length ys) p)
   unfolding entriesFrom
   filled-from p f [] e = refl
   filled-from p f (y ∷ ys) e =
       let here : p + zero ≡ p = omega arith in
       let next : (j : ℕ) → p + suc j ≡ p + 1 + j = λ j. omega arith in
-      written-first f (length ys) y ys ∙ (λ i. (e zero ∙ ap (rowAt P dir) here) i ∷ filled-from (p + 1) (λ (j : ℕ). f (suc j)) ys (λ j. e (suc j) ∙ ap (rowAt P dir) (next j)) i)
+      written-first f (length ys) y ys ∙ (λ i. (e zero ∙ ap (rowAt P dir) here) i
+      ∷ filled-from (p + 1) (λ (j : ℕ). f (suc j)) ys (λ j. e (suc j) ∙ ap (rowAt P dir) (next j)) i)
 
-  pub filled-whole : (ys : List LineRecord) → written (rowAt P dir) (length ys) ys ≡ map rowOf (entriesFrom P dir (length ys) 0)
+  pub filled-whole : (ys : List LineRecord) → written (rowAt P dir) (length ys) ys
+      ≡ map rowOf (entriesFrom P dir (length ys) 0)
   filled-whole ys =
       let here : (j : ℕ) → j ≡ 0 + j = λ j. omega arith in
       filled-from 0 (rowAt P dir) ys (λ j. ap (rowAt P dir) (here j))
@@ -60,12 +65,14 @@ module _ (P : Placement) (dir : List ℕ) where
 second-none : (a b : ℕ) → orElse a b ≡ 0 → b ≡ 0
 unfolding orElse
 second-none a b e =
-    by-eq a 0 (λ z. sym (ap (λ (t : Bool). if t b a) (eq-eqb a 0 z)) ∙ e) (λ d. absurd (d (sym (ap (λ (t : Bool). if t b a) (ne-eqb a 0 d)) ∙ e)))
+    by-eq a 0 (λ z. sym (ap (λ (t : Bool). if t b a) (eq-eqb a 0 z))
+    ∙ e) (λ d. absurd (d (sym (ap (λ (t : Bool). if t b a) (ne-eqb a 0 d)) ∙ e)))
 
 row-fits : (rows : ℕ) (dir : List ℕ) → firstOf (rowFlaws rows dir) ≡ 0 → rows ≡ length dir
 unfolding rowFlaws
 row-fits rows dir e =
-    by-eq rows (length dir) (λ z. z) (λ d. let h : 110 ≡ 0 = sym (ap (λ (t : Bool). if (not t) 110 0) (ne-eqb rows (length dir) d)) ∙ e in omega (arith, h))
+    by-eq rows (length dir) (λ z. z) (λ d. let h : 110 ≡ 0 = sym
+    (ap (λ (t : Bool). if (not t) 110 0) (ne-eqb rows (length dir) d)) ∙ e in omega (arith, h))
 
 module _ (l : Lent) (ys : List LineRecord) where
   abbrev refused : ℕ → ℕ
@@ -86,7 +93,8 @@ module _ (l : Lent) (ys : List LineRecord) where
   upTo n = written (rowAt direct (l .dir)) n ys
 
   carried : refused (length ys) ≡ 0 → upTo (length ys) ≡ map rowOf entries
-  carried e = filled-whole direct (l .dir) ys ∙ ap (λ (c : ℕ). map rowOf (entriesFrom direct (l .dir) c 0)) (as-many (length ys) e)
+  carried e = filled-whole direct (l .dir) ys ∙ ap (λ (c : ℕ). map rowOf (entriesFrom direct (l .dir) c 0))
+      (as-many (length ys) e)
 
   carried-out : (n : ℕ) → n ≡ refused (length ys) → upTo (if (eqb n 0) (length ys) 0) ≡ row n
   carried-out n is =

@@ -21,11 +21,13 @@ pub record Plans (refusal rows : ℕ) (k : Plan) : Type 0 where
   pub filled : k .count ≡ if (eqb refusal 0) rows 0
   pub reported : Reports refusal noCounts (k .report)
 
--- The meaning's listing on the machine that was lent, into a row of so many empty entries: they are all overwritten, or the call is refused.
+-- The meaning's listing on the machine that was lent, into a row of so many empty entries: they are all overwritten,
+-- or the call is refused.
 abbrev pub listingOf : Lent → ℕ → Listed
 listingOf l rows = listing documentBoard (machineIn l) (replicate rows empty)
 
--- The report has the meaning's answer. The row has a record of each of the meaning's entries; refused, it is as it was lent.
+-- The report has the meaning's answer. The row has a record of each of the meaning's entries; refused, it is as it
+-- was lent.
 pub record Lists (l : Lent) (rows : List LineRecord) (x : Report) (rows′ : List LineRecord) : Type 0 where
   pub reported : Reports (listingOf l (length rows) .answer) noCounts x
   pub filled : rows′ ≡ if (eqb (listingOf l (length rows) .answer) 0) (map rowOf (listingOf l (length rows) .row)) rows

@@ -1,4 +1,5 @@
--- The two sheets obey the rule: agreement holds behind the power cut, over the cold run, at the new start, and over the warm run.
+-- The two sheets obey the rule: agreement holds behind the power cut, over the cold run, at the new start, and over
+-- the warm run.
 use mathlib.Core.Path.{_≡_, refl, sym, ap, _∙_}
 use mathlib.Core.Bool.{true}
 use mathlib.Core.List.{List, [], _∷_}
@@ -30,27 +31,37 @@ use Rattle.code_claims.specs.Sheets.{coldBeside, warmBeside, ObeyTheRule
 abbrev Alike : ℕ → ℕ → Machine Uncached → Machine Cached → Type 0
 Alike N C u s = Agreeing documentBoard document-laws aesCipher N C u s
 
-module _ (N C : ℕ) (slots : documentBoard .slotsFine C ≡ true) (n : ℕ) (u : Machine Uncached) (s : Machine Cached) (A : Alike N C u s) where
+module _ (N C : ℕ) (slots : documentBoard .slotsFine C ≡ true) (n : ℕ) (u : Machine Uncached) (s : Machine Cached)
+    (A : Alike N C u s) where
   bytes : Bytes (bufferOf (run n))
   unfolding bufferOf
   bytes = bytes-none
 
   -- a run on both
-  same : SameOutside documentBoard aesCipher (withoutCache documentBoard aesCipher (run n) u (withCache documentBoard aesCipher (run n) s)) (withCache documentBoard aesCipher (run n) s)
-  same = first (always-same documentBoard document-laws aesCipher aesLaws N C slots (run n ∷ []) u s (bytes-then bytes no-more) A)
+  same : SameOutside documentBoard aesCipher (withoutCache documentBoard aesCipher (run n) u
+      (withCache documentBoard aesCipher (run n) s)) (withCache documentBoard aesCipher (run n) s)
+  same = first (always-same documentBoard document-laws aesCipher aesLaws N C slots (run n ∷ []) u s
+      (bytes-then bytes no-more) A)
     where
       first : meaning.AlwaysSame documentBoard aesCipher (run n ∷ []) u s
-          → SameOutside documentBoard aesCipher (withoutCache documentBoard aesCipher (run n) u (withCache documentBoard aesCipher (run n) s)) (withCache documentBoard aesCipher (run n) s)
+          → SameOutside documentBoard aesCipher (withoutCache documentBoard aesCipher (run n) u
+          (withCache documentBoard aesCipher (run n) s)) (withCache documentBoard aesCipher (run n) s)
       first (meaning.next S R) = S
 
-  kept : Alike N C (withoutCache documentBoard aesCipher (run n) u (withCache documentBoard aesCipher (run n) s) .machine) (withCache documentBoard aesCipher (run n) s .machine)
+  kept : Alike N C (withoutCache documentBoard aesCipher (run n) u
+      (withCache documentBoard aesCipher (run n) s) .machine) (withCache documentBoard aesCipher (run n) s .machine)
   kept = calls-keep-agreement documentBoard document-laws aesCipher aesLaws N C slots (run n) u s bytes A
 
 -- the same start again on both
-again-alike : (N C : ℕ) (r : Processor) (u : Machine Uncached) (s : Machine Cached) → Alike N C u s → Alike N C (again r u) (again r s)
+again-alike : (N C : ℕ) (r : Processor) (u : Machine Uncached) (s : Machine Cached) → Alike N C u s
+    → Alike N C (again r u) (again r s)
 unfolding again
 again-alike N C r u s A =
-    record { processors = ap (λ (p : Processor). again r (record { processor = p; memory = s .memory }) .processor) (A .processors); memories = A .memories }
+    record {
+      processors = ap (λ (p : Processor). again r (record { processor = p; memory = s .memory }) .processor)
+          (A .processors);
+      memories = A .memories;
+    }
 
 pub both-sheets-obey : SheetsObeyTheRule
 unfolding coldBeside warmBeside coldRun warmRun resultOf withCache emptied
@@ -61,6 +72,10 @@ both-sheets-obey n m acceptable made =
     let N = length (s .memory .mem) / 64 in
     let C = length (s .memory .dir) in
     let u : Machine Uncached = record { processor = m .processor; memory = asItStands (s .memory) } in
-    let A : Alike N C u s = record { processors = refl; memories = fresh-agrees aesCipher aesLaws _ _ N C (s .memory) (record { key = Z .key; bytes = Z .bytes; good = l .good }) (Z .empty) } in
+    let A : Alike N C u s = record {
+      processors = refl;
+      memories = fresh-agrees aesCipher aesLaws _ _ N C (s .memory)
+          (record { key = Z .key; bytes = Z .bytes; good = l .good }) (Z .empty);
+    } in
     let again-A = again-alike N C (m .processor) _ _ (kept N C (l .slots) n u s A) in
     record { cold = same N C (l .slots) n u s A; warm = same N C (l .slots) n _ _ again-A }

@@ -19,7 +19,8 @@ use Rattle.demand3.specs.Statement.{writtenBack, withCache, withoutCache, SameO
 use Rattle.demand3.proofs.Document.{demand3-from-reset}
 use Rattle.machine.specs.Lent.{Lent, machineIn}
 use Rattle.host.specs.Outcome.{resultOf, Gives, Leaves}
-use Rattle.code_claims.specs.Claim.{Made, Session, ended, andThen, beside, Same, AlwaysSame, none, next, Demand3AtTheCode}
+use Rattle.code_claims.specs.Claim.{Made, Session, ended, andThen, beside, Same, AlwaysSame, none, next}
+use Rattle.code_claims.specs.Claim.{Demand3AtTheCode}
 
 module _ (call : Call) (l : Lent) (made : Made call l) where
   -- the call of the meaning
@@ -31,9 +32,11 @@ module _ (call : Call) (l : Lent) (made : Made call l) where
   gives = made .promised
 
   -- what stands beside the code is what stands beside the meaning
-  same-beside : (u : Machine Uncached) → withoutCache documentBoard aesCipher call u result ≡ beside call u (made .after)
+  same-beside : (u : Machine Uncached) → withoutCache documentBoard aesCipher call u result
+      ≡ beside call u (made .after)
   unfolding withoutCache
-  same-beside u = ap (λ (m : Machine Cached). called documentBoard aesCipher (uncachedSetup aesCipher (asItStands (m .memory))) call u) (sym (gives .left))
+  same-beside u = ap (λ (m : Machine Cached). called documentBoard aesCipher
+      (uncachedSetup aesCipher (asItStands (m .memory))) call u) (sym (gives .left))
 
   -- one call
   carried : (u : Machine Uncached) → SameOutside documentBoard aesCipher (beside call u (made .after)) result
@@ -44,16 +47,19 @@ module _ (call : Call) (l : Lent) (made : Made call l) where
         steps = S .steps ∙ sym (gives .stepped);
         buffers = S .buffers ∙ sym (gives .later);
         processors = S .processors ∙ sym (ap (λ (m : Machine Cached). m .processor) (gives .left));
-        memories = S .memories ∙ sym (ap (λ (m : Machine Cached). writtenBack documentBoard aesCipher (m .memory)) (gives .left));
+        memories = S .memories ∙ sym (ap (λ (m : Machine Cached). writtenBack documentBoard aesCipher (m .memory))
+            (gives .left));
       }
 
 -- every session
-all-same : (calls : List Call) (l : Lent) (session : Session calls l) (u : Machine Uncached) → meaning.AlwaysSame documentBoard aesCipher calls u (machineIn l)
+all-same : (calls : List Call) (l : Lent) (session : Session calls l) (u : Machine Uncached)
+    → meaning.AlwaysSame documentBoard aesCipher calls u (machineIn l)
     → AlwaysSame calls l session u
 all-same [] l ended u S = none
 all-same (call ∷ calls) l (andThen made rest) u (meaning.next S R) =
     next (carried call l made u (rw (same-beside call l made u) at S))
-    (all-same calls (made .after) rest (beside call u (made .after) .machine) (rw (same-beside call l made u, ← gives call l made .left) at R))
+    (all-same calls (made .after) rest (beside call u (made .after) .machine)
+    (rw (same-beside call l made u, ← gives call l made .left) at R))
 
 -- the DRK of two words is one of 16 bytes
 drk-sized : (hi lo : ℕ) → Sized 16 (drkOf hi lo)
@@ -69,4 +75,5 @@ unfolding asItStands
 a-cache-changes-the-counts-and-nothing-else p behind mem macs C b z e lo hi calls bs session =
     all-same calls _ session _
     (rw (behind .cleared)
-    (demand3-from-reset aesCipher aesLaws _ mem macs (behind .was) C (drk-sized (p .special .drkhi) (p .special .drklo)) b z e lo hi calls bs))
+    (demand3-from-reset aesCipher aesLaws _ mem macs (behind .was) C
+    (drk-sized (p .special .drkhi) (p .special .drklo)) b z e lo hi calls bs))

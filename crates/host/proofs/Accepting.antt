@@ -17,7 +17,8 @@ use Rattle.instructions.specs.Rules.{firstOf}
 use Rattle.instructions.specs.Board.{documentBoard}
 use Rattle.instructions.specs.Record.{Processor}
 use Rattle.instructions.specs.Refusals.{sizeFine, lineFlaws, bufferFlaws, runFlaws}
-use Rattle.instructions.specs.Calls.{Call, run, callFlaws, Machine, Result, cachedSetup, changed, asked, accepted, runFrom, counts}
+use Rattle.instructions.specs.Calls.{Call, run, callFlaws, Machine, Result, cachedSetup, changed, asked, accepted}
+use Rattle.instructions.specs.Calls.{runFrom, counts}
 use Rattle.sound.proofs.Programs.{none-first}
 use Rattle.sound.proofs.Refused.{line-in}
 use Rattle.sound.proofs.Document.{document-laws}
@@ -38,7 +39,8 @@ use Rattle.host.proofs.Refusing.{Judged, accepted-is, own-none, in-orde
 -- a buffer that is not refused has its size
 pub buffer-is : (k : ℕ) (x : List ℕ) → firstOf (bufferFlaws k x) ≡ 0 → length x ≡ k
 unfolding bufferFlaws
-buffer-is k x z = eqb-true (length x) k (not-false (eqb (length x) k) (none-first (not (eqb (length x) k)) 107 0 (λ q. omega arith) z .0))
+buffer-is k x z = eqb-true (length x) k (not-false (eqb (length x) k) (none-first (not (eqb (length x) k)) 107 0
+    (λ q. omega arith) z .0))
 
 -- a run that is not refused is of no more than 10,000 instructions
 run-is : (n : ℕ) → firstOf (runFlaws n) ≡ 0 → n ≤ 10000
@@ -55,11 +57,13 @@ module _ {call : Call} {l : Lent} {no : ℕ} (j : Judged call l no) (right : no 
   fit = in-order j right .good
 
   -- of a call with a line, and perhaps a buffer
-  pub line-asks : (n : ℕ) (rest : List (Bool × ℕ)) → callFlaws (length (l .mem)) call ≡ lineFlaws (length (l .mem)) n ++ rest
+  pub line-asks : (n : ℕ) (rest : List (Bool × ℕ)) → callFlaws (length (l .mem)) call
+      ≡ lineFlaws (length (l .mem)) n ++ rest
       → (n < length (l .mem) / 64) × (firstOf rest ≡ 0)
   line-asks n rest e = line-in (length (l .mem) / 64) (length (l .mem)) n rest (fit .mem) (sym (ap firstOf e) ∙ own)
 
-  pub transfer-asks : (n k : ℕ) (x : List ℕ) → callFlaws (length (l .mem)) call ≡ lineFlaws (length (l .mem)) n ++ bufferFlaws k x
+  pub transfer-asks : (n k : ℕ) (x : List ℕ) → callFlaws (length (l .mem)) call
+      ≡ lineFlaws (length (l .mem)) n ++ bufferFlaws k x
       → Fit (machineIn l .memory) × ((n < length (l .mem) / 64) × (length x ≡ k))
   transfer-asks n k x e = let a = line-asks n (bufferFlaws k x) e in (fit, (a .0, buffer-is k x (a .1)))
 
@@ -75,7 +79,8 @@ module _ {call : Call} {l : Lent} {no : ℕ} (j : Judged call l no) (right : no 
 
 -- ---- what is left behind it
 -- a record holds what it is read as
-pub same-record : (p : code.Processor) → Holds (processorOf (p .r) (p .special)) (keyOf (p .special)) (p .r) (p .special)
+pub same-record : (p : code.Processor) → Holds (processorOf (p .r) (p .special)) (keyOf (p .special)) (p .r)
+    (p .special)
 same-record p = record { record′ = refl; key′ = refl }
 
 abbrev onAccepted : Call → Lent → Result Cached
@@ -93,26 +98,39 @@ abbrev lentWith : code.Processor → List ℕ → List ℕ → List ℕ → List
 lentWith p mem macs cache dir = record { processor = p; mem = mem; macs = macs; cache = cache; dir = dir }
 
 module _ {call : Call} {l : Lent} {no : ℕ} (j : Judged call l no) (right : no ≡ 0) where
-  accepted-leaves : (l′ : Lent) {x : Report} {buffer : List ℕ} → Gives (onAccepted call l) x buffer (machineIn l′) → Leaves call l x buffer l′
+  accepted-leaves : (l′ : Lent) {x : Report} {buffer : List ℕ} → Gives (onAccepted call l) x buffer (machineIn l′)
+      → Leaves call l x buffer l′
   unfolding Leaves resultOf
   accepted-leaves l′ g = rw (accepted-is documentBoard aesCipher call (machineIn l) (j .number) right) g
 
-  pub run-leaves : (n : ℕ) (l′ : Lent) {x : Report} → onAccepted call l ≡ running n 0 (machineIn l) → RunGives n l x l′ → Leaves call l x [] l′
+  pub run-leaves : (n : ℕ) (l′ : Lent) {x : Report} → onAccepted call l ≡ running n 0 (machineIn l)
+      → RunGives n l x l′ → Leaves call l x [] l′
   unfolding counts
   run-leaves n l′ e h =
       accepted-leaves l′
-      (rw e (record { answered = h .number; stepped = h .done; counted = h .counted; later = no-buffer n 0 (machineIn l); left = h .machine }))
+      (rw e (record {
+        answered = h .number;
+        stepped = h .done;
+        counted = h .counted;
+        later = no-buffer n 0 (machineIn l);
+        left = h .machine;
+      }))
 
   -- behind another call the record is p′, which is read as r, under the old key
   abbrev key : List ℕ
   key = keyOf (l .processor .special)
 
-  module _ {r : Processor} {k : Counts} {p′ : code.Processor} {a : Answer} (A : Answers p′ 0 k a) (H : Holds r key (p′ .r) (p′ .special)) where
+  module _ {r : Processor} {k : Counts} {p′ : code.Processor} {a : Answer} (A : Answers p′ 0 k a)
+      (H : Holds r key (p′ .r) (p′ .special)) where
     machine-after : (mem macs cache dir : List ℕ)
-        → machineIn (lentWith (a .processor) mem macs cache dir) ≡ record { processor = r; memory = memoryWith key mem macs cache dir }
+        → machineIn (lentWith (a .processor) mem macs cache dir) ≡ record {
+          processor = r;
+          memory = memoryWith key mem macs cache dir;
+        }
     machine-after mem macs cache dir =
         rw (A .record′)
-        (ap₂ (λ (s : Processor) (drk : List ℕ). record { processor = s; memory = memoryWith drk mem macs cache dir }) (H .record′) (H .key′))
+        (ap₂ (λ (s : Processor) (drk : List ℕ). record { processor = s; memory = memoryWith drk mem macs cache dir })
+        (H .record′) (H .key′))
 
     -- where it is one request of the memory
     pub asked-leaves : (q : Request) (f : Reply → List ℕ) {reply : Reply} {mem′ macs′ cache′ dir′ : List ℕ}
@@ -129,7 +147,10 @@ module _ {call : Call} {l : Lent} {no : ℕ} (j : Judged call l no) (right : no 
           stepped = x .stepped;
           counted = x .counted ∙ h .counted;
           later = ap f (h .answered);
-          left = machine-after mem′ macs′ cache′ dir′ ∙ ap (λ (s : Cached). record { processor = r; memory = s }) (h .left);
+          left = machine-after mem′ macs′ cache′ dir′ ∙ ap (λ (s : Cached). record {
+            processor = r;
+            memory = s;
+          }) (h .left);
         }))
 
     -- where it changes the record, or all of memory at once
@@ -150,10 +171,12 @@ module _ {call : Call} {l : Lent} {no : ℕ} (j : Judged call l no) (right : no 
         }))
 
 -- a line dropped, and everything written back, as requests
-pub evict-handles : {n : ℕ} {s t : Cached} {k : Counts} → Does (evictLine aesCipher direct n s) true k t → Handles (evict n) s (some []) k t
+pub evict-handles : {n : ℕ} {s t : Cached} {k : Counts} → Does (evictLine aesCipher direct n s) true k t
+    → Handles (evict n) s (some []) k t
 unfolding cachedHandle
 evict-handles d = record { answered = refl; counted = d .counted; left = d .left }
 
-pub flush-handles : {s t : Cached} {k : Counts} → Does (evictAll aesCipher direct s) true k t → Handles writeBack s (some []) k t
+pub flush-handles : {s t : Cached} {k : Counts} → Does (evictAll aesCipher direct s) true k t
+    → Handles writeBack s (some []) k t
 unfolding cachedHandle
 flush-handles d = record { answered = refl; counted = d .counted; left = d .left }

@@ -14,7 +14,8 @@ use Rattle.model.specs.Cached.{Cached, cached}
 use Rattle.instructions.specs.Rules.{firstOf}
 use Rattle.instructions.specs.Board.{Board, documentBoard}
 use Rattle.instructions.specs.Refusals.{orElse, cachedFlaws, rowFlaws}
-use Rattle.instructions.specs.Calls.{Call, bufferOf, callFlaws, Machine, cachedSetup, refusal, refused, accepted, called, counts}
+use Rattle.instructions.specs.Calls.{Call, bufferOf, callFlaws, Machine, cachedSetup, refusal, refused, accepted}
+use Rattle.instructions.specs.Calls.{called, counts}
 use Rattle.instructions.specs.Listing.{listingRefusal}
 use Rattle.sound.proofs.Refused.{none-refused}
 use Rattle.sound.proofs.Lent as sound
@@ -30,7 +31,8 @@ unfolding orElse
 or-else-first a b e = by-test (eqb a 0) (eqb-true a 0) (λ (f : eqb a 0 ≡ false). absurd (eqb-false a 0 f (rw f at e)))
 
 -- ---- on any board
-module _ (B : Board) (c : Cipher) (call : Call) (m : Machine Cached) {no : ℕ} (is : no ≡ refusal (cachedSetup B c) call m) where
+module _ (B : Board) (c : Cipher) (call : Call) (m : Machine Cached) {no : ℕ} (is : no
+    ≡ refusal (cachedSetup B c) call m) where
   -- a call by its refusal
   by-refusal : called B c (cachedSetup B c) call m
       ≡ if (eqb no 0) (accepted B c (cachedSetup B c) call m) (refused no call m)
@@ -60,7 +62,8 @@ pub record Judged (call : Call) (l : Lent) (no : ℕ) : Type 0 where
 
 -- what the head found for a call whose own refusal is this one
 pub judged : {call : Call} {l : Lent} {own no : ℕ} → own ≡ firstOf (callFlaws (length (l .mem)) call)
-    → no ≡ lowest (l .processor) (length (l .mem)) (length (l .macs)) (length (l .cache)) (l .dir) own → Judged call l no
+    → no ≡ lowest (l .processor) (length (l .mem)) (length (l .macs)) (length (l .cache)) (l .dir) own
+    → Judged call l no
 unfolding refusal cachedSetup cached cachedFlaws lowest
 judged own-is no-is = record { number = rw (← own-is) no-is }
 
@@ -72,9 +75,11 @@ unfolding listingRefusal cachedFlaws lowest
 listing-judged l rows own-is no-is = rw (← own-is) no-is
 
 -- what was lent to a call that is not refused is in good order
-pub in-order : {call : Call} {l : Lent} {no : ℕ} → Judged call l no → no ≡ 0 → sound.Lent documentBoard document-laws (machineIn l .memory)
+pub in-order : {call : Call} {l : Lent} {no : ℕ} → Judged call l no → no ≡ 0
+    → sound.Lent documentBoard document-laws (machineIn l .memory)
 in-order {call} {l} j right =
-    sound.lent-good documentBoard document-laws (machineIn l .memory) (lent-none documentBoard aesCipher call (machineIn l) (j .number) right)
+    sound.lent-good documentBoard document-laws (machineIn l .memory)
+    (lent-none documentBoard aesCipher call (machineIn l) (j .number) right)
 
 -- a refusal leaves everything as it was lent
 pub refused-leaves : {call : Call} {l : Lent} {buffer : List ℕ} {no : ℕ} {a : Answer}

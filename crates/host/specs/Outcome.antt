@@ -20,7 +20,8 @@ use Rattle.machine.specs.Lent.{Lent, machineIn}
 unfoldable pub resultOf : Call → Machine Cached → Result Cached
 resultOf call m = called documentBoard aesCipher (cachedSetup documentBoard aesCipher) call m
 
--- The answer, run's steps, the counts, the later bytes of the call's buffer and the machine after it are those of a result.
+-- The answer, run's steps, the counts, the later bytes of the call's buffer and the machine after it are those of a
+-- result.
 pub record Gives (x : Result Cached) (report : Report) (buffer : List ℕ) (m : Machine Cached) : Type 0 where
   pub answered : report .answer ≡ x .answer
   pub stepped : report .steps ≡ x .steps
@@ -28,7 +29,8 @@ pub record Gives (x : Result Cached) (report : Report) (buffer : List ℕ) (m : 
   pub later : buffer ≡ x .buffer
   pub left : m ≡ x .machine
 
--- A call on what was lent leaves a report, the later bytes of the call's own buffer, and another record and four buffers: what the meaning's
+-- A call on what was lent leaves a report, the later bytes of the call's own buffer, and another record and four
+-- buffers: what the meaning's
 -- call gives.
 unfoldable pub Leaves : Call → Lent → Report → List ℕ → Lent → Type 0
 Leaves call l report buffer l′ = Gives (resultOf call (machineIn l)) report buffer (machineIn l′)

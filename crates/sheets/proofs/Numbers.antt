@@ -11,7 +11,8 @@ use Rattle.lists.proofs.Cases.{by-eq}
 pub no-numbers : (dir r : List ℕ) → SameNumbers 0 dir r
 no-numbers dir r = record { each = λ i h. absurd (omega (arith, h)) }
 
-pub one-more : (n : ℕ) (dir r : List ℕ) (x : ℕ) → n < length r → x ≡ getD dir n 0 → SameNumbers n dir r → SameNumbers (n + 1) dir (set r n x)
+pub one-more : (n : ℕ) (dir r : List ℕ) (x : ℕ) → n < length r → x ≡ getD dir n 0 → SameNumbers n dir r
+    → SameNumbers (n + 1) dir (set r n x)
 one-more n dir r x h e s =
     record {
       each = λ i l.

@@ -31,8 +31,10 @@ module _ {x : Result Cached} {r : Report} {buffer : List ℕ} {m : Machine Cache
       let written : r .counts .written ≡ countsOf (x .log) .written = ap (λ (c : Counts). c .written) (g .counted) in
       let checked : r .counts .checked ≡ countsOf (x .log) .checked = ap (λ (c : Counts). c .checked) (g .counted) in
       let made : r .counts .made ≡ countsOf (x .log) .made = ap (λ (c : Counts). c .made) (g .counted) in
-      let fills : s .kinds .protectedfilled ≡ sumOver protectedFill (x .log) = k .checkedOnes ∙ checked ∙ sym (a .checked) in
-      let writes : s .kinds .protectedwritten ≡ sumOver protectedWrite (x .log) = k .signedOnes ∙ made ∙ sym (a .made) in
+      let fills : s .kinds .protectedfilled ≡ sumOver protectedFill (x .log) = k .checkedOnes ∙ checked
+      ∙ sym (a .checked) in
+      let writes : s .kinds .protectedwritten ≡ sumOver protectedWrite (x .log) = k .signedOnes ∙ made
+      ∙ sym (a .made) in
       record {
         kind = f .kind;
         answer = ap (λ (y : Report). y .answer) (f .report) ∙ g .answered;
@@ -42,5 +44,8 @@ module _ {x : Result Cached} {r : Report} {buffer : List ℕ} {m : Machine Cache
         protectedFilled = fills;
         ordinaryWritten = omega (arith, k .allWritten, written, a .written, writes);
         protectedWritten = writes;
-        slots = record { each = λ i h. f .slots .each i h ∙ ap (λ (y : Machine Cached). getD (y .memory .dir) i 0) (g .left) };
+        slots = record {
+          each = λ i h. f .slots .each i h ∙ ap (λ (y : Machine Cached). getD (y .memory .dir) i 0)
+              (g .left);
+        };
       }

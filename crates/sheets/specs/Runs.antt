@@ -16,7 +16,8 @@ emptied m = record { processor = m .processor; memory = resultOf powerCut m .mac
 unfoldable pub coldRun : ℕ → Machine Cached → Result Cached
 coldRun n m = resultOf (run n) (emptied m)
 
--- the record to start from again: as it was given, but for the SRH (and the DRK, which is the memory's), which every restart keeps
+-- the record to start from again: as it was given, but for the SRH (and the DRK, which is the memory's), which every
+-- restart keeps
 unfoldable pub startAgain : Processor → Processor → Processor
 startAgain r left =
     let k = r .cem in

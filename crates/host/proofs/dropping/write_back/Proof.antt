@@ -34,7 +34,8 @@ unfolding accepted
 returns-2 c =
     let made = c .before .before .before .before .before .before .before .before .before in
     let left = made .before .before .before .before .before .before in
-    asked-leaves (judgement (left .before)) (left .if1 .left) (c .done .ensures) (same-record (at-start (left .before) .args .p))
+    asked-leaves (judgement (left .before)) (left .if1 .left) (c .done .ensures)
+    (same-record (at-start (left .before) .args .p))
     writeBack (λ _. []) refl (flush-handles (made .evict-all .ensures))
 
 pub write-back-spec : {M : Type 1} → statement M

@@ -24,7 +24,8 @@ abbrev was-lent : tie.After-cold → Lent
 was-lent c = let a = at-start c .args in handed (a .p) (a .mem) (a .macs) (a .cache) (a .dir)
 
 filled-in-requires : tie.Need-filled-in-requires
-filled-in-requires c κs = orderly-counts (c .before .before .before .before .before .before .before .before .before .before .before .cold .ensures)
+filled-in-requires c κs = orderly-counts (c .before .before .before .before .before .before .before .before .before
+    .before .before .cold .ensures)
 
 filled-in-requires-2 : tie.Need-filled-in-requires-2
 filled-in-requires-2 c κs =
@@ -58,5 +59,6 @@ returns c =
 pub both-spec : {M : Type 1} → statement M
 both-spec =
     tie.close
-    (tie.spec (λ c κs. search needs) filled-in-requires (λ c κs. search needs) (λ c κs. search needs) filled-in-requires-2
+    (tie.spec (λ c κs. search needs) filled-in-requires (λ c κs. search needs)
+    (λ c κs. search needs) filled-in-requires-2
     same-length same-length-2 same-length-3 same-length-4 returns)

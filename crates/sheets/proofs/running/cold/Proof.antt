@@ -7,7 +7,8 @@ use Rattle.sheets.proofs.running.cold.Tie as tie
 returns : tie.Need-returns
 returns c =
     let ran = c .before .before .before .before .before .before .before .before in
-    let cut = ran .before .before .before .before .before .before .before .before .before .before .before .before .before in
+    let cut = ran .before .before .before .before .before .before .before .before .before .before .before .before
+    .before in
     cold-gives _ _ _ _ _ _ (cut .power-cut .ensures) (ran .run .ensures)
 
 pub cold-spec : {M : Type 1} → statement M
