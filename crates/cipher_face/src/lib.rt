@@ -1,8 +1,8 @@
 // The ciphers for programs in C: `aes`, `cmac` and `sealing` under plain names that begin with hq_, for tests and benchmarks beside other ciphers.
 ghost use mathlib.Core.Path.{_≡_};
-ghost use Rattle.aes.specs.Cipher.{cipher, invCipher};
-ghost use Rattle.aes.specs.Schedule.{keyExpansion};
-ghost use Rattle.aes.specs.Chain.{cbcEncrypt, cbcDecrypt};
+ghost use Rattle.aes_standard.specs.Cipher.{cipher, invCipher};
+ghost use Rattle.aes_standard.specs.Schedule.{keyExpansion};
+ghost use Rattle.aes_standard.specs.Chain.{cbcEncrypt, cbcDecrypt};
 ghost use Rattle.cmac.specs.Cmac.{cmac};
 ghost use Rattle.sealing.specs.Lines.{drkOf, enciphered, deciphered};
 
@@ -37,7 +37,7 @@ pub extern "C" fn hq_aes_decipher(key: &[u8; 16], block: &[u8; 16], out: &mut [u
 pub extern "C" fn hq_cbc_encrypt(w: &[u32; 44], iv: &[u8; 16], bytes: &mut [u8])
     ensures { λ _. ⌜ now (bytes .exit) ≡ cbcEncrypt (now (w .entry)) (now (iv .entry)) (now (bytes .entry)) ⌝ }
 {
-    aes::chain::encrypt(w, iv, bytes);
+    chain::encrypt(w, iv, bytes);
 }
 
 // CBC decryption of all whole blocks of a buffer, in place, under a key.
@@ -45,7 +45,7 @@ pub extern "C" fn hq_cbc_encrypt(w: &[u32; 44], iv: &[u8; 16], bytes: &mut [u8])
 pub extern "C" fn hq_cbc_decrypt(key: &[u8; 16], iv: &[u8; 16], bytes: &mut [u8])
     ensures { λ _. ⌜ now (bytes .exit) ≡ cbcDecrypt (keyExpansion (now (key .entry))) (now (iv .entry)) (now (bytes .entry)) ⌝ }
 {
-    aes::chain::decrypt(key, iv, bytes);
+    chain::decrypt(key, iv, bytes);
 }
 
 // CMAC: the MAC of a message under the words of a key schedule goes to out.

@@ -8,10 +8,10 @@ use Rattle.lists.specs.Words.{bigBytes}
 use Rattle.lists.proofs.ByteLaws.{bytes-append, bytes-zeros}
 use Rattle.lists.proofs.WordLaws.{bytes-bigBytes}
 use Rattle.model.specs.CipherLaws.{Sized, CipherLaws}
-use Rattle.aes.specs.Schedule.{keyExpansion}
-use Rattle.aes.specs.Cipher.{cipher}
-use Rattle.aes.proofs.RoundTrip.{cipher-length, cipher-block}
-use Rattle.aes.proofs.ChainTrip.{cbcEncrypt-length, cbcEncrypt-bytes, cbcDecrypt-length, cbcDecrypt-bytes, cbcDecrypt-cbcEncrypt}
+use Rattle.aes_standard.specs.Schedule.{keyExpansion}
+use Rattle.aes_standard.specs.Cipher.{cipher}
+use Rattle.aes_standard.proofs.RoundTrip.{cipher-length, cipher-block}
+use Rattle.aes_standard.proofs.ChainTrip.{cbcEncrypt-length, cbcEncrypt-bytes, cbcDecrypt-length, cbcDecrypt-bytes, cbcDecrypt-cbcEncrypt}
 use Rattle.cmac.specs.Cmac.{cmac}
 use Rattle.sealing.specs.Lines.{macOf, lineKey, codeMac, dataMac, startVector, enciphered, deciphered}
 use Rattle.sealing.proofs.RegisterLaws.{stream-length}

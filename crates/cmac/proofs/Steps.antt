@@ -1,8 +1,8 @@
 -- What the code makes on its way to a MAC is what the standard says: the subkeys, the last block and the MAC.
 use mathlib.Core.Path.{_≡_, refl, sym, ap, ap₂, _∙_}
 use mathlib.Core.List.{List, [], _∷_, _++_, append-nil}
-use Prim.Native.Nat.{ℕ, zero, suc, _+_, _-_, _*_, _/_, _%_, _≤_}
-use native.Mathlib.Nat.{add-zero}
+use Prim.Native.Nat.{ℕ, zero, suc, _-_, _*_, _/_, _%_, _≤_, _<_}
+use native.Mathlib.Nat.{div-div-eq-div-mul}
 use native.Mathlib.Omega.{arith}
 use borrow.Author.Tests.{eq-eqb, ne-eqb}
 use lib.Dec.{eqb}
@@ -12,35 +12,47 @@ use Rattle.lists.specs.If.{if}
 use Rattle.lists.specs.Bytes.{zeros}
 use Rattle.field.specs.Field.{_⊕_}
 use Rattle.field.proofs.Xor.{⊕-zero}
-use Rattle.aes.specs.State.{at, plus}
-use Rattle.aes.specs.Cipher.{cipher}
-use Rattle.aes.specs.Chain.{lastOfChain}
-use Rattle.cmac.specs.Subkeys.{shifted, lastByte, doubled, subkey1, subkey2}
+use Rattle.aes_standard.specs.State.{at, state, byteOf, plus}
+use Rattle.aes_standard.specs.Cipher.{cipher}
+use Rattle.aes_standard.specs.Chain.{lastOfChain}
+use Rattle.rounds.specs.declared.columns.Columns.{Columns}
+use Rattle.rounds.specs.Words.{Bytes, fourWords, blockOf}
+use Rattle.rounds.proofs.WordLaws.{bytes-⊕, four-bytes}
+use Rattle.cmac.specs.Subkeys.{shifted, lastByte, doubled, Shifted, subkey1, subkey2}
 use Rattle.cmac.specs.Cmac.{beforeLast, padded, lastBlock, cmac}
 
--- the code's sixteen bytes are the block doubled
-pub doubled-is : (b : List ℕ)
-    → (at b 0 % 128 * 2 + at b 1 / 128) ∷ (at b 1 % 128 * 2 + at b 2 / 128) ∷ (at b 2 % 128 * 2 + at b 3 / 128) ∷ (at b 3 % 128 * 2 + at b 4 / 128) ∷ (at b 4 % 128 * 2 + at b 5 / 128) ∷ (at b 5 % 128 * 2 + at b 6 / 128) ∷ (at b 6 % 128 * 2 + at b 7 / 128) ∷ (at b 7 % 128 * 2 + at b 8 / 128) ∷ (at b 8 % 128 * 2 + at b 9 / 128) ∷ (at b 9 % 128 * 2 + at b 10 / 128) ∷ (at b 10 % 128 * 2 + at b 11 / 128) ∷ (at b 11 % 128 * 2 + at b 12 / 128) ∷ (at b 12 % 128 * 2 + at b 13 / 128) ∷ (at b 13 % 128 * 2 + at b 14 / 128) ∷ (at b 14 % 128 * 2 + at b 15 / 128)
-    ∷ (at b 15 % 128 * 2 ⊕ at b 0 / 128 * 0x87) ∷ []
-    ≡ doubled b
-unfolding doubled shifted lastByte plus
-doubled-is b i =
-    sym (⊕-zero (at b 0 % 128 * 2 + at b 1 / 128)) i
-    ∷ sym (⊕-zero (at b 1 % 128 * 2 + at b 2 / 128)) i
-    ∷ sym (⊕-zero (at b 2 % 128 * 2 + at b 3 / 128)) i
-    ∷ sym (⊕-zero (at b 3 % 128 * 2 + at b 4 / 128)) i
-    ∷ sym (⊕-zero (at b 4 % 128 * 2 + at b 5 / 128)) i
-    ∷ sym (⊕-zero (at b 5 % 128 * 2 + at b 6 / 128)) i
-    ∷ sym (⊕-zero (at b 6 % 128 * 2 + at b 7 / 128)) i
-    ∷ sym (⊕-zero (at b 7 % 128 * 2 + at b 8 / 128)) i
-    ∷ sym (⊕-zero (at b 8 % 128 * 2 + at b 9 / 128)) i
-    ∷ sym (⊕-zero (at b 9 % 128 * 2 + at b 10 / 128)) i
-    ∷ sym (⊕-zero (at b 10 % 128 * 2 + at b 11 / 128)) i
-    ∷ sym (⊕-zero (at b 11 % 128 * 2 + at b 12 / 128)) i
-    ∷ sym (⊕-zero (at b 12 % 128 * 2 + at b 13 / 128)) i
-    ∷ sym (⊕-zero (at b 13 % 128 * 2 + at b 14 / 128)) i
-    ∷ sym (⊕-zero (at b 14 % 128 * 2 + at b 15 / 128)) i
-    ∷ ap (λ (x : ℕ). x ⊕ at b 0 / 128 * 0x87) (sym (add-zero (at b 15 % 128 * 2))) i ∷ []
+-- the code's sum of two blocks
+pub summed : (a b x y r : List ℕ) → x ≡ state (at a) → y ≡ state (at b) → r ≡ state (λ i. at x i ⊕ at y i) → r ≡ plus a b
+unfolding plus
+summed a b x y r load load' add = add ∙ ap₂ plus load load'
+
+-- a number below 256 is the last byte of its word
+small-bytes : (k : ℕ) → k < 256 → Bytes k 0 0 0 k
+unfolding byteOf
+small-bytes k lt = omega arith
+
+-- four words shifted as one number, with a byte added at the end
+four-shifted : (x : Columns) (a b c d k : ℕ) → k < 256 → Shifted (x .a) (x .b) a → Shifted (x .b) (x .c) b → Shifted (x .c) (x .d) c
+    → Shifted (x .d) 0 d → fourWords (a ⊕ 0) (b ⊕ 0) (c ⊕ 0) (d ⊕ k) ≡ plus (shifted (blockOf x)) (lastByte k)
+unfolding shifted lastByte plus byteOf
+four-shifted x a b c d k small p q r s =
+    let none : Bytes 0 0 0 0 0 = small-bytes 0 (omega arith) in
+    four-bytes (bytes-⊕ p none) (bytes-⊕ q none) (bytes-⊕ r none) (bytes-⊕ s (small-bytes k small))
+
+first-digit : (w : ℕ) → w / 2147483648 % 2 ≡ byteOf w 0 / 128
+unfolding byteOf
+first-digit w = omega (arith, div-div-eq-div-mul w 16777216 128)
+
+-- the code's four words are the block doubled
+pub doubled-is : (l : List ℕ) (x : Columns) (a b c d : ℕ) → blockOf x ≡ state (at l) → Shifted (x .a) (x .b) a → Shifted (x .b) (x .c) b
+    → Shifted (x .c) (x .d) c → Shifted (x .d) 0 d → fourWords a b c (d ⊕ x .a / 2147483648 % 2 * 0x87) ≡ doubled l
+unfolding doubled shifted
+doubled-is l x a b c d load p q r s =
+    let k = x .a / 2147483648 % 2 * 0x87 in
+    (λ i. fourWords (sym (⊕-zero a) i) (sym (⊕-zero b) i) (sym (⊕-zero c) i) (d ⊕ k))
+    ∙ four-shifted x a b c d k (omega arith) p q r s
+    ∙ ap (λ (n : ℕ). plus (shifted (blockOf x)) (lastByte (n * 0x87))) (first-digit (x .a))
+    ∙ ap doubled load
 
 drop-replicate : (n k : ℕ) → drop n (replicate {A = ℕ} k 0) ≡ replicate (k - n) 0
 drop-replicate zero k = let e : k ≡ k - 0 = omega arith in ap (λ (j : ℕ). replicate {A = ℕ} j 0) e

@@ -6,9 +6,9 @@ use lib.Dec.{eqb}
 use lib.ListN.{length, take, drop}
 use Rattle.lists.specs.If.{if}
 use Rattle.lists.specs.Bytes.{zeros}
-use Rattle.aes.specs.State.{plus}
-use Rattle.aes.specs.Cipher.{cipher}
-use Rattle.aes.specs.Chain.{lastOfChain}
+use Rattle.aes_standard.specs.State.{plus}
+use Rattle.aes_standard.specs.Cipher.{cipher}
+use Rattle.aes_standard.specs.Chain.{lastOfChain}
 use Rattle.cmac.specs.Subkeys.{subkey1, subkey2}
 
 -- How many bytes stand before the last block, which is empty only where there are none at all.

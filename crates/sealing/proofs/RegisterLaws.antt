@@ -14,11 +14,12 @@ use Rattle.lists.specs.Words.{little, big, bigBytes, wordsBytes, xored, xoredBe
 use Rattle.lists.proofs.PartLaws.{length-put}
 use Rattle.field.specs.Field.{_⊕_}
 use Rattle.field.proofs.Xor.{⊕-zero}
-use Rattle.aes.specs.State.{at, plus}
-use Rattle.aes.specs.Schedule.{keyExpansion}
-use Rattle.aes.specs.Cipher.{cipher}
-use Rattle.aes.proofs.RoundTrip.{cipher-length}
-use Rattle.aes.proofs.ChainLaws.{part-tabulated, take-put}
+use Rattle.aes_standard.specs.State.{at, plus}
+use Rattle.aes_standard.specs.Schedule.{keyExpansion}
+use Rattle.aes_standard.specs.Cipher.{cipher}
+use Rattle.aes_standard.proofs.RoundTrip.{cipher-length}
+use Rattle.rounds.proofs.StoreLaws.{part-tabulated}
+use Rattle.chain.proofs.ChainLaws.{take-put}
 use Rattle.cmac.specs.Subkeys.{lastByte}
 use Rattle.sealing.specs.Lines.{lineKey}
 use Rattle.sealing.specs.Stream.{counted, streamFrom, stream}

@@ -4,13 +4,12 @@ use mathlib.Core.List.{List, [], _∷_, _++_, append-assoc, append-nil}
 use Prim.Native.Nat.{ℕ, suc, _+_, _-_, _*_, _/_, _%_, _≤_}
 use native.Mathlib.Nat.{div-div-eq-div-mul}
 use native.Mathlib.Omega.{arith}
-use lib.ListN.{length, take, drop, set, length-drop, length-append}
+use lib.ListN.{length, take, drop, set, length-drop, length-append, drop-of-length-le}
 use lib.Seq.{take-length, take-at, drop-at, take-all, drop-drop}
-use lib.ListN.{drop-of-length-le}
 use Rattle.lists.specs.Parts.{putAt}
 use Rattle.lists.specs.Words.{littleBytes, bigBytes}
 use Rattle.lists.proofs.WordLaws.{length-bigBytes}
-use Rattle.aes.specs.State.{at}
+use Rattle.aes_standard.specs.State.{at}
 use Rattle.sealing.specs.Lines.{drkOf, signedText}
 
 -- dividing by 256 again and again

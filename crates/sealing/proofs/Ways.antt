@@ -7,9 +7,9 @@ use Rattle.lists.specs.Bytes.{same, zeros}
 use Rattle.lists.specs.Words.{littleBytes, bigBytes}
 use Rattle.lists.proofs.ByteLaws.{same-refl, same-true}
 use Rattle.lists.proofs.Cases.{by-test}
-use Rattle.aes.specs.Schedule.{keyExpansion}
-use Rattle.aes.specs.Cipher.{cipher}
-use Rattle.aes.specs.Chain.{cbcEncrypt, cbcDecrypt}
+use Rattle.aes_standard.specs.Schedule.{keyExpansion}
+use Rattle.aes_standard.specs.Cipher.{cipher}
+use Rattle.aes_standard.specs.Chain.{cbcEncrypt, cbcDecrypt}
 use Rattle.sealing.specs.Lines.{drkOf, lineKey, startVector, enciphered, deciphered}
 
 -- the code's block for the initialization vector

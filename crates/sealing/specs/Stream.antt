@@ -1,9 +1,9 @@
 -- The key stream of Suspend (document 01, 'Faults of the machine').
 use mathlib.Core.List.{List, [], _++_}
 use Prim.Native.Nat.{ℕ, zero, suc, _+_}
-use Rattle.aes.specs.State.{plus}
-use Rattle.aes.specs.Schedule.{keyExpansion}
-use Rattle.aes.specs.Cipher.{cipher}
+use Rattle.aes_standard.specs.State.{plus}
+use Rattle.aes_standard.specs.Schedule.{keyExpansion}
+use Rattle.aes_standard.specs.Cipher.{cipher}
 use Rattle.cmac.specs.Subkeys.{lastByte}
 use Rattle.sealing.specs.Lines.{lineKey}
 

@@ -7,8 +7,8 @@ ghost use mathlib.Core.List.{_++_};
 ghost use lib.ListN.{length};
 ghost use Rattle.lists.specs.Bytes.{same};
 ghost use Rattle.lists.specs.Words.{bigBytes};
-ghost use Rattle.aes.specs.Schedule.{keyExpansion};
-ghost use Rattle.aes.specs.Cipher.{cipher};
+ghost use Rattle.aes_standard.specs.Schedule.{keyExpansion};
+ghost use Rattle.aes_standard.specs.Cipher.{cipher};
 ghost use Rattle.sealing.specs.Lines.{drkOf, macOf, lineKey, codeMac, dataMac, enciphered, deciphered};
 
 // The words under which a DRK signs.
@@ -59,7 +59,7 @@ pub fn seal(hi: u64, lo: u64, address: u64, line: &mut [u8])
 {
     let w = aes::expand(&line_key(hi, lo));
     let iv = start_vector(&w, address);
-    aes::chain::encrypt(&w, &iv, line);
+    chain::encrypt(&w, &iv, line);
 }
 
 // Opens the sealed data line at an address, in place.
@@ -68,7 +68,7 @@ pub fn unseal(hi: u64, lo: u64, address: u64, line: &mut [u8])
 {
     let key = line_key(hi, lo);
     let iv = start_vector(&aes::expand(&key), address);
-    aes::chain::decrypt(&key, &iv, line);
+    chain::decrypt(&key, &iv, line);
 }
 
 // Are the two rows of bytes the same?

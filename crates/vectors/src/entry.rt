@@ -1,9 +1,9 @@
 // Whether `aes` gives the answer of a vector of one block.
 ghost use mathlib.Core.Path.{_≡_};
 ghost use mathlib.Core.Bool.{true};
-ghost use Rattle.aes.specs.Cipher.{cipher, invCipher};
-ghost use Rattle.aes.specs.Schedule.{keyExpansion};
-ghost use Rattle.aes.specs.Chain.{cbcEncrypt, cbcDecrypt};
+ghost use Rattle.aes_standard.specs.Cipher.{cipher, invCipher};
+ghost use Rattle.aes_standard.specs.Schedule.{keyExpansion};
+ghost use Rattle.aes_standard.specs.Chain.{cbcEncrypt, cbcDecrypt};
 
 // Whether the plain block is enciphered to the coded block under the key.
 pub fn enciphers(key: &[u8; 16], plain: &[u8; 16], coded: &[u8; 16]) -> bool
@@ -26,7 +26,7 @@ pub fn encrypts(key: &[u8; 16], iv: &[u8; 16], plain: [u8; 16], coded: &[u8; 16]
     ensures { λ r. ⌜ (r ≡ true → cbcEncrypt (keyExpansion (now (key .entry))) (now (iv .entry)) plain ≡ now (coded .entry)) ⌝ }
 {
     let mut answer = plain;
-    aes::chain::encrypt(&aes::expand(key), iv, &mut answer);
+    chain::encrypt(&aes::expand(key), iv, &mut answer);
     check::same(&answer, coded)
 }
 
@@ -35,6 +35,6 @@ pub fn decrypts(key: &[u8; 16], iv: &[u8; 16], plain: &[u8; 16], coded: [u8; 16]
     ensures { λ r. ⌜ (r ≡ true → cbcDecrypt (keyExpansion (now (key .entry))) (now (iv .entry)) coded ≡ now (plain .entry)) ⌝ }
 {
     let mut answer = coded;
-    aes::chain::decrypt(key, iv, &mut answer);
+    chain::decrypt(key, iv, &mut answer);
     check::same(&answer, plain)
 }

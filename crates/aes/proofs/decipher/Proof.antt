@@ -1,6 +1,7 @@
 -- `aes::decipher` meets its promise.
-use Rattle.aes.proofs.CipherLaws.{through-back, deciphered}
-use Rattle.aes.specs.Words.{blockOf}
+use Rattle.ways.proofs.CipherLaws.{through-back}
+use Rattle.aes.proofs.DecipherLaws.{deciphered}
+use Rattle.rounds.specs.Words.{blockOf}
 use borrow.Author.Needs.{needs}
 use Rattle.aes.proofs.decipher.Statement.{statement}
 use Rattle.aes.proofs.decipher.Tie as tie
@@ -24,14 +25,6 @@ returns c =
 pub decipher-spec : {M : Type 1} → statement M
 decipher-spec =
     tie.close
-    (tie.spec
-    (λ c κs. search needs)
-    (λ c κs. search needs)
-    (λ c κs. search needs)
-    (λ c κs. search needs)
-    (λ c κs. search needs)
-    (λ c κs. search needs)
-    (λ c κs. search needs)
-    (λ c κs. search needs)
-    (λ c κs. search needs)
+    (tie.spec (λ c κs. search needs) (λ c κs. search needs) (λ c κs. search needs) (λ c κs. search needs)
+    (λ c κs. search needs) (λ c κs. search needs) (λ c κs. search needs) (λ c κs. search needs) (λ c κs. search needs)
     returns)

@@ -1,7 +1,7 @@
 -- `aes::encipher_to` meets its promise.
-use Rattle.aes.proofs.ChainLaws.{stored, put-all}
-use Rattle.aes.proofs.CipherLaws.{enciphered}
-use Rattle.aes.specs.Words.{blockOf}
+use Rattle.rounds.proofs.StoreLaws.{stored, put-all}
+use Rattle.ways.proofs.CipherLaws.{enciphered}
+use Rattle.rounds.specs.Words.{blockOf}
 use mathlib.Core.Path.{_≡_, _∙_}
 use lib.ListN.{length}
 use native.Mathlib.Omega.{arith}
@@ -29,12 +29,5 @@ returns c =
 pub encipher-to-spec : {M : Type 1} → statement M
 encipher-to-spec =
     tie.close
-    (tie.spec
-    (λ c κs. search needs)
-    (λ c κs. search needs)
-    (λ c κs. search needs)
-    (λ c κs. search needs)
-    (λ c κs. search needs)
-    (λ c κs. search needs)
-    (λ c κs. search needs)
-    returns)
+    (tie.spec (λ c κs. search needs) (λ c κs. search needs) (λ c κs. search needs) (λ c κs. search needs)
+    (λ c κs. search needs) (λ c κs. search needs) (λ c κs. search needs) returns)

@@ -1,5 +1,5 @@
 -- `cmac::last_block` meets its promise.
-use Rattle.aes.specs.State.{plus}
+use Rattle.aes_standard.specs.State.{plus}
 use mathlib.Core.Path.{ap, _∙_}
 use Rattle.cmac.specs.Subkeys.{doubled}
 use Rattle.cmac.proofs.Steps.{last-whole, last-padded}

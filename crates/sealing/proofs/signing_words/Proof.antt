@@ -1,5 +1,5 @@
 -- `sealing::signing_words` meets its promise.
-use Rattle.aes.specs.Schedule.{keyExpansion}
+use Rattle.aes_standard.specs.Schedule.{keyExpansion}
 use mathlib.Core.Path.{ap, _∙_}
 use borrow.Author.Needs.{needs}
 use Rattle.sealing.proofs.signing_words.Statement.{statement}

@@ -1,5 +1,5 @@
 -- `sealing::start_vector` meets its promise.
-use Rattle.aes.specs.Cipher.{cipher}
+use Rattle.aes_standard.specs.Cipher.{cipher}
 use mathlib.Core.Path.{ap, _∙_}
 use borrow.Author.Needs.{needs}
 use Rattle.sealing.proofs.start_vector.Statement.{statement}

@@ -5,7 +5,7 @@ use mathlib.Core.Path.{refl, sym, ap, _∙_}
 use native.Mathlib.Omega.{arith}
 use lib.ListN.{length}
 use Rattle.sealing.specs.Lines.{drkOf}
-use Rattle.aes.proofs.RoundTrip.{cipher-length}
+use Rattle.aes_standard.proofs.RoundTrip.{cipher-length}
 use Rattle.sealing.proofs.RegisterLaws.{StreamTo, stream-more, stream-all}
 use Rattle.sealing.proofs.registers.key_stream.Statement.{statement}
 use Rattle.sealing.proofs.registers.key_stream.Tie as tie
