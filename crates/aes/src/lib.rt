@@ -1,6 +1,5 @@
 // AES-128 (FIPS 197): a key schedule for many blocks, a block enciphered or deciphered, and whole blocks in a chain.
 use rounds::columns;
-
 ghost use mathlib.Core.Path.{_≡_};
 ghost use Rattle.aes_standard.specs.Cipher.{cipher, invCipher};
 ghost use Rattle.aes_standard.specs.Schedule.{keyExpansion};
@@ -23,7 +22,8 @@ pub fn encipher(w: &[u32; 44], block: &[u8; 16]) -> [u8; 16]
 
 // Cipher: a block under the words of a key schedule goes to out.
 //
-// Each word is laid down right after it is read: so its four bytes become one store, and whoever reads the block by words next need not wait.
+// Each word is laid down right after it is read: so its four bytes become one store, and whoever reads the block by
+// words next need not wait.
 pub fn encipher_to(w: &[u32; 44], block: &[u8; 16], out: &mut [u8; 16])
     ensures { λ _. ⌜ now (out .exit) ≡ cipher (now (w .entry)) (now (block .entry)) ⌝ }
 {

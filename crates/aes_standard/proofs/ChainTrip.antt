@@ -1,4 +1,5 @@
--- CBC decryption undoes CBC encryption, for every schedule, initialization vector and list of bytes; lengths and bytes are kept.
+-- CBC decryption undoes CBC encryption, for every schedule, initialization vector and list of bytes; lengths and bytes
+-- are kept.
 use mathlib.Core.Path.{_≡_, refl, ap, ap₂, _∙_}
 use mathlib.Core.List.{List, _++_}
 use Prim.Native.Nat.{ℕ, zero, suc, _+_, _*_, _/_, _≤_}
@@ -27,10 +28,12 @@ abbrev next : List ℕ → List ℕ → List ℕ → List ℕ
 next w before l = cipher w (plus before (take 16 l))
 
 next-block : (w before l : List ℕ) → Bytes before → Bytes l → Block (next w before l)
-next-block w before l hb hl = cipher-block w (plus before (take 16 l)) (plus-block before (take 16 l) hb (bytes-take 16 l hl) .bytes)
+next-block w before l hb hl = cipher-block w (plus before (take 16 l))
+    (plus-block before (take 16 l) hb (bytes-take 16 l hl) .bytes)
 
 -- one block there and back
-block-undone : (w before l : List ℕ) → 16 ≤ length l → Bytes before → Bytes l → plus (invCipher w (next w before l)) before ≡ take 16 l
+block-undone : (w before l : List ℕ) → 16 ≤ length l → Bytes before → Bytes l
+    → plus (invCipher w (next w before l)) before ≡ take 16 l
 block-undone w before l h hb hl =
     let p = take 16 l in
     ap (λ (z : List ℕ). plus z before)
@@ -66,17 +69,21 @@ chained-bytes w zero before l hb hl = hl
 chained-bytes w (suc n) before l hb hl =
     let c = next w before l in
     let hc = next-block w before l hb hl in
-    bytes-append c (chained w n c (drop 16 l)) (hc .bytes) (chained-bytes w n c (drop 16 l) (hc .bytes) (bytes-drop 16 l hl))
+    bytes-append c (chained w n c (drop 16 l)) (hc .bytes)
+    (chained-bytes w n c (drop 16 l) (hc .bytes) (bytes-drop 16 l hl))
 
-unchained-length : (w : List ℕ) (n : ℕ) (before l : List ℕ) → n * 16 ≤ length l → length (unchained (invCipher w) n before l) ≡ length l
+unchained-length : (w : List ℕ) (n : ℕ) (before l : List ℕ) → n * 16 ≤ length l
+    → length (unchained (invCipher w) n before l) ≡ length l
 unfolding unchained plus
 unchained-length w zero before l h = refl
 unchained-length w (suc n) before l h =
     length-append (plus (invCipher w (take 16 l)) before) (unchained (invCipher w) n (take 16 l) (drop 16 l))
-    ∙ ap (λ (k : ℕ). 16 + k) (unchained-length w n (take 16 l) (drop 16 l) (omega (arith, length-drop 16 l)) ∙ length-drop 16 l)
+    ∙ ap (λ (k : ℕ). 16 + k) (unchained-length w n (take 16 l) (drop 16 l) (omega (arith, length-drop 16 l))
+    ∙ length-drop 16 l)
     ∙ omega arith
 
-unchained-bytes : (w : List ℕ) (n : ℕ) (before l : List ℕ) → Bytes before → Bytes l → Bytes (unchained (invCipher w) n before l)
+unchained-bytes : (w : List ℕ) (n : ℕ) (before l : List ℕ) → Bytes before → Bytes l
+    → Bytes (unchained (invCipher w) n before l)
 unfolding unchained
 unchained-bytes w zero before l hb hl = hl
 unchained-bytes w (suc n) before l hb hl =

@@ -11,7 +11,8 @@ use Rattle.field.proofs.Xor.{⊕-lt, ⊕-again}
 use Rattle.field.proofs.Product.{•-lt}
 use Rattle.field.proofs.SBoxLaws.{sub-undone, invSub-undone}
 use Rattle.field.proofs.MixingLaws.{row, undo-row, unmix-mix}
-use Rattle.aes_standard.specs.State.{at, state, plus, Block, byteOf, below, subBytes, shiftRows, mixWith, mixColumns, addRoundKey, invSubBytes, invShiftRows, invMixColumns}
+use Rattle.aes_standard.specs.State.{at, state, plus, Block, byteOf, below, subBytes, shiftRows, mixWith}
+use Rattle.aes_standard.specs.State.{mixColumns, addRoundKey, invSubBytes, invShiftRows, invMixColumns}
 use Rattle.aes_standard.proofs.WordBytes.{byteOf-lt}
 
 -- a list of n numbers, by what stands at each place
@@ -27,7 +28,8 @@ tabulated (suc n) (x ∷ l) h = ap (λ (r : List ℕ). x ∷ r) (tabulated n l (
 
 tabulate-bytes : (n : ℕ) (f : ℕ → ℕ) → ((i : ℕ) → f i < 256) → Bytes (tabulate n f)
 tabulate-bytes zero f h = bytes-none
-tabulate-bytes (suc n) f h = bytes-cons (f 0) (tabulate n (λ i. f (suc i))) (h 0) (tabulate-bytes n (λ i. f (suc i)) (λ i. h (suc i)))
+tabulate-bytes (suc n) f h = bytes-cons (f 0) (tabulate n (λ i. f (suc i))) (h 0)
+    (tabulate-bytes n (λ i. f (suc i)) (λ i. h (suc i)))
 
 -- a state of bytes is a block
 pub state-block : (f : ℕ → ℕ) → ((i : ℕ) → f i < 256) → Block (state f)
@@ -50,7 +52,8 @@ pub addRoundKey-block : (w : List ℕ) (r : ℕ) (s : List ℕ) → Bytes s → 
 unfolding addRoundKey
 addRoundKey-block w r s h =
     state-block (λ i. at s i ⊕ byteOf (at w (r * 4 + i / 4)) (i % 4))
-    (λ i. ⊕-lt 8 (at s i) (byteOf (at w (r * 4 + i / 4)) (i % 4)) (h .byte i) (byteOf-lt (at w (r * 4 + i / 4)) (i % 4)))
+    (λ i. ⊕-lt 8 (at s i) (byteOf (at w (r * 4 + i / 4)) (i % 4)) (h .byte i)
+    (byteOf-lt (at w (r * 4 + i / 4)) (i % 4)))
 
 pub addRoundKey-again : (w : List ℕ) (r : ℕ) (s : List ℕ) → addRoundKey w r (addRoundKey w r s) ≡ state (at s)
 unfolding addRoundKey
@@ -80,13 +83,15 @@ rows-bytes-undone s h k = state (λ i. sub-undone .undone (at s i) (h .byte i) k
 mixed-lt : (m0 m1 m2 m3 a b c d : ℕ) → a < 256 → b < 256 → c < 256 → d < 256 → m0 • a ⊕ m1 • b ⊕ m2 • c ⊕ m3 • d < 256
 mixed-lt m0 m1 m2 m3 a b c d ha hb hc hd =
     ⊕-lt 8 (m0 • a ⊕ m1 • b ⊕ m2 • c) (m3 • d)
-    (⊕-lt 8 (m0 • a ⊕ m1 • b) (m2 • c) (⊕-lt 8 (m0 • a) (m1 • b) (•-lt m0 a ha) (•-lt m1 b hb)) (•-lt m2 c hc)) (•-lt m3 d hd)
+    (⊕-lt 8 (m0 • a ⊕ m1 • b) (m2 • c) (⊕-lt 8 (m0 • a) (m1 • b) (•-lt m0 a ha) (•-lt m1 b hb)) (•-lt m2 c hc))
+    (•-lt m3 d hd)
 
 pub mixWith-block : (m0 m1 m2 m3 : ℕ) (s : List ℕ) → Bytes s → Block (mixWith m0 m1 m2 m3 s)
 unfolding mixWith
 mixWith-block m0 m1 m2 m3 s h =
     state-block (λ i. m0 • at s i ⊕ m1 • at s (below i 1) ⊕ m2 • at s (below i 2) ⊕ m3 • at s (below i 3))
-    (λ i. mixed-lt m0 m1 m2 m3 (at s i) (at s (below i 1)) (at s (below i 2)) (at s (below i 3)) (h .byte _) (h .byte _) (h .byte _) (h .byte _))
+    (λ i. mixed-lt m0 m1 m2 m3 (at s i) (at s (below i 1)) (at s (below i 2)) (at s (below i 3)) (h .byte _) (h .byte _)
+    (h .byte _) (h .byte _))
 
 pub mixColumns-undone : (s : List ℕ) → Bytes s → invMixColumns (mixColumns s) ≡ state (at s)
 unfolding invMixColumns mixColumns mixWith row

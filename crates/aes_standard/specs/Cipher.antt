@@ -1,7 +1,8 @@
 -- Cipher and InvCipher of AES-128 on one block, under the 44 words of a key schedule (FIPS 197, sections 5.1 and 5.3).
 use mathlib.Core.List.{List}
 use Prim.Native.Nat.{ℕ, zero, suc, _-_}
-use Rattle.aes_standard.specs.State.{subBytes, shiftRows, mixColumns, addRoundKey, invSubBytes, invShiftRows, invMixColumns}
+use Rattle.aes_standard.specs.State.{subBytes, shiftRows, mixColumns, addRoundKey, invSubBytes, invShiftRows}
+use Rattle.aes_standard.specs.State.{invMixColumns}
 
 -- One of the nine full rounds, with round key r.
 unfoldable pub round : List ℕ → ℕ → List ℕ → List ℕ

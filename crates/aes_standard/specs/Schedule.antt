@@ -24,7 +24,8 @@ xpower (suc n) = xtimes (xpower n)
 unfoldable pub rcon : ℕ → ℕ
 rcon i = word (xpower (i - 1)) 0 0 0
 
--- What word i takes from the word before it: at each fourth word that word turned, substituted and with its round constant.
+-- What word i takes from the word before it: at each fourth word that word turned, substituted and with its round
+-- constant.
 abbrev pub ifFourth : Bool → ℕ → ℕ → ℕ
 ifFourth true i before = subWord (rotWord before) ⊕ rcon (i / 4)
 ifFourth false i before = before

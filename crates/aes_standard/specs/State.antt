@@ -1,4 +1,5 @@
--- The state of AES, sixteen bytes column by column, and the four transformations with their inverses (FIPS 197, sections 3.4, 5.1 and 5.3).
+-- The state of AES, sixteen bytes column by column, and the four transformations with their inverses (FIPS 197,
+-- sections 3.4, 5.1 and 5.3).
 use mathlib.Core.List.{List, [], _∷_}
 use Prim.Native.Nat.{ℕ, _+_, _-_, _*_, _/_, _%_, _^_}
 use mathlib.Core.Path.{_≡_}

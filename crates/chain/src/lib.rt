@@ -7,13 +7,12 @@ ghost use lib.ListN.{length};
 ghost use Rattle.field.specs.Field.{invSubByte};
 ghost use Rattle.field.specs.Mixing.{mixedEntry, unmixedEntry};
 ghost use Rattle.field.specs.Table.{Table};
-ghost use Rattle.lists.specs.Parts.{partAt, putAt};
+ghost use Rattle.lists.specs.Parts.{partAt};
 ghost use Rattle.aes_standard.specs.State.{plus};
 ghost use Rattle.aes_standard.specs.Cipher.{cipher};
 ghost use Rattle.aes_standard.specs.Schedule.{keyExpansion};
 ghost use Rattle.aes_standard.specs.Chain.{lastOfChain, cbcEncrypt, cbcDecrypt};
-ghost use Rattle.rounds.specs.Ways.{eqInvCipher};
-ghost use Rattle.chain.specs.Equivalent.{eqDecrypt};
+ghost use Rattle.chain.specs.Equivalent.{unlinked, eqDecrypt};
 ghost use Rattle.rounds.specs.Words.{blockOf};
 
 // A block at place k added to the block before and enciphered.
@@ -31,7 +30,7 @@ fn unlink(t: &[u32; 256], u: &[u32; 256], v: &[u32; 44], before: Columns, b: &mu
     requires { ⌜ Table 256 unmixedEntry (now t) ⌝ }
     requires { ⌜ Table 256 invSubByte (now u) ⌝ }
     requires { ⌜ k + 16 ≤ length (now b) ⌝ }
-    ensures { λ _. ⌜ now (b .exit) ≡ putAt k 16 (plus (eqInvCipher (now (v .entry)) (partAt k 16 (now (b .entry)))) (blockOf before)) (now (b .entry)) ⌝ }
+    ensures { λ _. ⌜ now (b .exit) ≡ unlinked (now (v .entry)) (blockOf before) k (now (b .entry)) ⌝ }
 {
     let x = ways::through(t, u, v, columns::flip(columns::columns_at(b, k)));
     columns::put_word(x.a ^ before.a, b, k);

@@ -1,14 +1,12 @@
 -- What the code makes on its way to a MAC is what the standard says: the subkeys, the last block and the MAC.
 use mathlib.Core.Path.{_≡_, refl, sym, ap, ap₂, _∙_}
-use mathlib.Core.List.{List, [], _∷_, _++_, append-nil}
+use mathlib.Core.List.{List, _++_, append-nil}
 use Prim.Native.Nat.{ℕ, zero, suc, _-_, _*_, _/_, _%_, _≤_, _<_}
 use native.Mathlib.Nat.{div-div-eq-div-mul}
 use native.Mathlib.Omega.{arith}
 use borrow.Author.Tests.{eq-eqb, ne-eqb}
-use lib.Dec.{eqb}
 use lib.ListN.{length, take, drop, set, replicate, length-drop}
 use lib.Seq.{take-length, take-all, set-at}
-use Rattle.lists.specs.If.{if}
 use Rattle.lists.specs.Bytes.{zeros}
 use Rattle.field.specs.Field.{_⊕_}
 use Rattle.field.proofs.Xor.{⊕-zero}
@@ -17,7 +15,7 @@ use Rattle.aes_standard.specs.Cipher.{cipher}
 use Rattle.aes_standard.specs.Chain.{lastOfChain}
 use Rattle.rounds.specs.declared.columns.Columns.{Columns}
 use Rattle.rounds.specs.Words.{Bytes, fourWords, blockOf}
-use Rattle.rounds.proofs.WordLaws.{bytes-⊕, four-bytes}
+use Rattle.rounds.proofs.WordLaws.{bytes-⊕, bytes-of, four-bytes}
 use Rattle.cmac.specs.Subkeys.{shifted, lastByte, doubled, Shifted, subkey1, subkey2}
 use Rattle.cmac.specs.Cmac.{beforeLast, padded, lastBlock, cmac}
 
@@ -31,27 +29,34 @@ small-bytes : (k : ℕ) → k < 256 → Bytes k 0 0 0 k
 unfolding byteOf
 small-bytes k lt = omega arith
 
--- four words shifted as one number, with a byte added at the end
-four-shifted : (x : Columns) (a b c d k : ℕ) → k < 256 → Shifted (x .a) (x .b) a → Shifted (x .b) (x .c) b → Shifted (x .c) (x .d) c
-    → Shifted (x .d) 0 d → fourWords (a ⊕ 0) (b ⊕ 0) (c ⊕ 0) (d ⊕ k) ≡ plus (shifted (blockOf x)) (lastByte k)
-unfolding shifted lastByte plus byteOf
-four-shifted x a b c d k small p q r s =
+-- a byte added at the end of four words
+pub last-added : (x : Columns) (k : ℕ) → k < 256
+    → fourWords (x .a) (x .b) (x .c) (x .d ⊕ k) ≡ plus (blockOf x) (lastByte k)
+unfolding lastByte plus
+last-added x k small =
     let none : Bytes 0 0 0 0 0 = small-bytes 0 (omega arith) in
-    four-bytes (bytes-⊕ p none) (bytes-⊕ q none) (bytes-⊕ r none) (bytes-⊕ s (small-bytes k small))
+    (λ i. fourWords (sym (⊕-zero (x .a)) i) (sym (⊕-zero (x .b)) i) (sym (⊕-zero (x .c)) i) (x .d ⊕ k))
+    ∙ four-bytes (bytes-⊕ (bytes-of refl) none) (bytes-⊕ (bytes-of refl) none) (bytes-⊕ (bytes-of refl) none)
+    (bytes-⊕ (bytes-of refl) (small-bytes k small))
+
+-- four words shifted as one number
+four-shifted : (x y : Columns) → Shifted (x .a) (x .b) (y .a) → Shifted (x .b) (x .c) (y .b)
+    → Shifted (x .c) (x .d) (y .c) → Shifted (x .d) 0 (y .d) → blockOf y ≡ shifted (blockOf x)
+unfolding shifted byteOf
+four-shifted x y p q r s = four-bytes p q r s
 
 first-digit : (w : ℕ) → w / 2147483648 % 2 ≡ byteOf w 0 / 128
 unfolding byteOf
 first-digit w = omega (arith, div-div-eq-div-mul w 16777216 128)
 
 -- the code's four words are the block doubled
-pub doubled-is : (l : List ℕ) (x : Columns) (a b c d : ℕ) → blockOf x ≡ state (at l) → Shifted (x .a) (x .b) a → Shifted (x .b) (x .c) b
-    → Shifted (x .c) (x .d) c → Shifted (x .d) 0 d → fourWords a b c (d ⊕ x .a / 2147483648 % 2 * 0x87) ≡ doubled l
+pub doubled-is : (l : List ℕ) (x y : Columns) → blockOf x ≡ state (at l) → Shifted (x .a) (x .b) (y .a)
+    → Shifted (x .b) (x .c) (y .b) → Shifted (x .c) (x .d) (y .c) → Shifted (x .d) 0 (y .d)
+    → fourWords (y .a) (y .b) (y .c) (y .d ⊕ x .a / 2147483648 % 2 * 0x87) ≡ doubled l
 unfolding doubled shifted
-doubled-is l x a b c d load p q r s =
-    let k = x .a / 2147483648 % 2 * 0x87 in
-    (λ i. fourWords (sym (⊕-zero a) i) (sym (⊕-zero b) i) (sym (⊕-zero c) i) (d ⊕ k))
-    ∙ four-shifted x a b c d k (omega arith) p q r s
-    ∙ ap (λ (n : ℕ). plus (shifted (blockOf x)) (lastByte (n * 0x87))) (first-digit (x .a))
+doubled-is l x y load p q r s =
+    last-added y (x .a / 2147483648 % 2 * 0x87) (omega arith)
+    ∙ ap₂ (λ (b : List ℕ) (n : ℕ). plus b (lastByte (n * 0x87))) (four-shifted x y p q r s) (first-digit (x .a))
     ∙ ap doubled load
 
 drop-replicate : (n k : ℕ) → drop n (replicate {A = ℕ} k 0) ≡ replicate (k - n) 0

@@ -1,5 +1,5 @@
 -- The MAC of a list of bytes of any length, under the words of a key schedule (SP 800-38B, section 6.2).
-use mathlib.Core.List.{List, [], _∷_, _++_}
+use mathlib.Core.List.{List, _∷_, _++_}
 use mathlib.Core.Path.{_≡_}
 use Prim.Native.Nat.{ℕ, _-_, _*_, _/_, _≤_}
 use lib.Dec.{eqb}

@@ -1,4 +1,5 @@
--- The inverse of each byte, as a list: what the tables are computed from, so that the power of each byte is computed once.
+-- The inverse of each byte, as a list: what the tables are computed from, so that the power of each byte is computed
+-- once.
 use mathlib.Core.Path.{refl}
 use mathlib.Core.List.{List, [], _∷_}
 use Prim.Native.Nat.{ℕ}

@@ -1,4 +1,5 @@
--- MixColumns and InvMixColumns undo each other on a column of bytes: one argument over the two matrices' rows, and tests at the powers of two.
+-- MixColumns and InvMixColumns undo each other on a column of bytes: one argument over the two matrices' rows, and
+-- tests at the powers of two.
 use mathlib.Core.Path.{_≡_, refl, sym, ap, ap₂, _∙_}
 use Prim.Native.Nat.{ℕ, _<_}
 use Rattle.field.specs.Field.{_⊕_, xtimes, productBy, _•_}
@@ -49,7 +50,8 @@ pub record UndoRow (n0 n1 n2 n3 m0 m1 m2 m3 : ℕ) : Type 0 where
 module _ (n0 n1 n2 n3 m0 m1 m2 m3 : ℕ) (undo : UndoRow n0 n1 n2 n3 m0 m1 m2 m3) where
   -- the rows of the one matrix, each turned to begin with a, times the row of the other
   split : (a b c d : ℕ)
-      → row n0 n1 n2 n3 (row m0 m1 m2 m3 a b c d) (row m0 m1 m2 m3 b c d a) (row m0 m1 m2 m3 c d a b) (row m0 m1 m2 m3 d a b c)
+      → row n0 n1 n2 n3 (row m0 m1 m2 m3 a b c d) (row m0 m1 m2 m3 b c d a) (row m0 m1 m2 m3 c d a b)
+      (row m0 m1 m2 m3 d a b c)
       ≡ row n0 n1 n2 n3 (m0 • a) (m3 • a) (m2 • a) (m1 • a) ⊕ row n0 n1 n2 n3 (m1 • b) (m0 • b) (m3 • b) (m2 • b)
       ⊕ row n0 n1 n2 n3 (m2 • c) (m1 • c) (m0 • c) (m3 • c) ⊕ row n0 n1 n2 n3 (m3 • d) (m2 • d) (m1 • d) (m0 • d)
   unfolding row
@@ -61,7 +63,8 @@ module _ (n0 n1 n2 n3 m0 m1 m2 m3 : ℕ) (undo : UndoRow n0 n1 n2 n3 m0 m1 m2 m3
       (m2 • c) (m1 • c) (m0 • c) (m3 • c) (m3 • d) (m2 • d) (m1 • d) (m0 • d)
 
   pub undo-row : (a b c d : ℕ) → a < 256 → b < 256 → c < 256 → d < 256
-      → row n0 n1 n2 n3 (row m0 m1 m2 m3 a b c d) (row m0 m1 m2 m3 b c d a) (row m0 m1 m2 m3 c d a b) (row m0 m1 m2 m3 d a b c) ≡ a
+      → row n0 n1 n2 n3 (row m0 m1 m2 m3 a b c d) (row m0 m1 m2 m3 b c d a) (row m0 m1 m2 m3 c d a b)
+      (row m0 m1 m2 m3 d a b c) ≡ a
   undo-row a b c d ha hb hc hd =
       split a b c d
       ∙ ap₂ _⊕_ (ap₂ _⊕_ (ap₂ _⊕_ (undo .one a ha) (undo .zero1 b hb)) (undo .zero2 c hc)) (undo .zero3 d hd)

@@ -1,4 +1,5 @@
--- SubBytes and InvSubBytes undo each other on bytes: the inverse undoes itself, and the two affine maps each other, each by one test of all bytes.
+-- SubBytes and InvSubBytes undo each other on bytes: the inverse undoes itself, and the two affine maps each other,
+-- each by one test of all bytes.
 use mathlib.Core.Path.{_≡_, sym, ap, _∙_}
 use mathlib.Core.Bool.{Bool}
 use Prim.Native.Nat.{ℕ, _<_}

@@ -17,7 +17,8 @@ table size rule xs len t =
     record { entry = λ k h. eqb→eq (getD xs k 0) (rule k) (at (is rule) xs t k (rw len h)) }
 
 -- the same by another rule, which is quicker to compute and gives the same at each entry
-pub table-by : (size : ℕ) (quick rule : ℕ → ℕ) → ((k : ℕ) → k < size → quick k ≡ rule k) → (xs : List ℕ) → length xs ≡ size
+pub table-by : (size : ℕ) (quick rule : ℕ → ℕ) → ((k : ℕ) → k < size → quick k ≡ rule k) → (xs : List ℕ)
+    → length xs ≡ size
     → T (every (is quick) 0 xs) → Table size rule xs
 table-by size quick rule same xs len t =
     record { entry = λ k h. table size quick xs len t .entry k h ∙ same k h }

@@ -21,7 +21,8 @@ pub shared-is : (t : List ℕ) (a b c d k p q r : ℕ)
     → bitXor (bitXor (bitXor (bitXor p q) (at t (byteOf c 2))) r) k ≡ sharedWord t a b c d ⊕ k
 unfolding _⊕_ sharedWord
 shared-is t a b c d k p q r e f g i =
-    bitXor (bitXor (bitXor (bitXor (e i) (f i)) (at t (byteOf c 2))) ((g ∙ ap (λ (n : ℕ). turned (at t n) 1) (byteOf-last d)) i)) k
+    bitXor (bitXor (bitXor (bitXor (e i) (f i)) (at t (byteOf c 2)))
+    ((g ∙ ap (λ (n : ℕ). turned (at t n) 1) (byteOf-last d)) i)) k
 
 -- the code's word of four look-ups is the word of what was picked
 pub picked-is : (g : ℕ → ℕ) (t : List ℕ) (a b c d k w : ℕ)
@@ -29,10 +30,12 @@ pub picked-is : (g : ℕ → ℕ) (t : List ℕ) (a b c d k w : ℕ)
     → bitXor w k ≡ pickedWord g t a b c d ⊕ k
 unfolding _⊕_ pickedWord
 picked-is g t a b c d k w e i =
-    bitXor ((e ∙ ap (λ (n : ℕ). word (g (at t (byteOf a 0))) (g (at t (byteOf b 1))) (g (at t (byteOf c 2))) (g (at t n))) (byteOf-last d)) i) k
+    bitXor ((e ∙ ap (λ (n : ℕ). word (g (at t (byteOf a 0))) (g (at t (byteOf b 1))) (g (at t (byteOf c 2)))
+    (g (at t n))) (byteOf-last d)) i) k
 
 pub picked-bytes : (g : ℕ → ℕ) (t : List ℕ) (a b c d : ℕ) → ((k : ℕ) → k < 256 → g (at t k) < 256)
-    → Bytes (pickedWord g t a b c d) (g (at t (byteOf a 0))) (g (at t (byteOf b 1))) (g (at t (byteOf c 2))) (g (at t (byteOf d 3)))
+    → Bytes (pickedWord g t a b c d) (g (at t (byteOf a 0))) (g (at t (byteOf b 1))) (g (at t (byteOf c 2)))
+    (g (at t (byteOf d 3)))
 unfolding pickedWord
 picked-bytes g t a b c d lt =
     word-bytes (g (at t (byteOf a 0))) (g (at t (byteOf b 1))) (g (at t (byteOf c 2))) (g (at t (byteOf d 3)))
@@ -59,10 +62,14 @@ module _ (y : Way) (t : List ℕ) (shares : Shares y t) where
   -- a column of the code is the matrix times the column of substituted bytes
   pub shared-bytes : (a b c d : ℕ)
       → Bytes (sharedWord t a b c d)
-      (row (y .m0) (y .m1) (y .m2) (y .m3) (y .sub (byteOf a 0)) (y .sub (byteOf b 1)) (y .sub (byteOf c 2)) (y .sub (byteOf d 3)))
-      (row (y .m0) (y .m1) (y .m2) (y .m3) (y .sub (byteOf b 1)) (y .sub (byteOf c 2)) (y .sub (byteOf d 3)) (y .sub (byteOf a 0)))
-      (row (y .m0) (y .m1) (y .m2) (y .m3) (y .sub (byteOf c 2)) (y .sub (byteOf d 3)) (y .sub (byteOf a 0)) (y .sub (byteOf b 1)))
-      (row (y .m0) (y .m1) (y .m2) (y .m3) (y .sub (byteOf d 3)) (y .sub (byteOf a 0)) (y .sub (byteOf b 1)) (y .sub (byteOf c 2)))
+      (row (y .m0) (y .m1) (y .m2) (y .m3) (y .sub (byteOf a 0)) (y .sub (byteOf b 1)) (y .sub (byteOf c 2))
+      (y .sub (byteOf d 3)))
+      (row (y .m0) (y .m1) (y .m2) (y .m3) (y .sub (byteOf b 1)) (y .sub (byteOf c 2)) (y .sub (byteOf d 3))
+      (y .sub (byteOf a 0)))
+      (row (y .m0) (y .m1) (y .m2) (y .m3) (y .sub (byteOf c 2)) (y .sub (byteOf d 3)) (y .sub (byteOf a 0))
+      (y .sub (byteOf b 1)))
+      (row (y .m0) (y .m1) (y .m2) (y .m3) (y .sub (byteOf d 3)) (y .sub (byteOf a 0)) (y .sub (byteOf b 1))
+      (y .sub (byteOf c 2)))
   unfolding sharedWord row
   shared-bytes a b c d =
       let f = y .sub in
@@ -76,7 +83,8 @@ module _ (y : Way) (t : List ℕ) (shares : Shares y t) where
         byte0 = sum .byte0 ∙ (λ i. p .byte2 i ⊕ q .byte1 i ⊕ y .m2 • f (byteOf c 2) ⊕ v .byte3 i);
         byte1 =
             sum .byte1 ∙ (λ i. p .byte3 i ⊕ q .byte2 i ⊕ y .m1 • f (byteOf c 2) ⊕ v .byte0 i)
-            ∙ sym (turn (y .m0 • f (byteOf b 1)) (y .m1 • f (byteOf c 2)) (y .m2 • f (byteOf d 3)) (y .m3 • f (byteOf a 0)));
+            ∙ sym (turn (y .m0 • f (byteOf b 1)) (y .m1 • f (byteOf c 2)) (y .m2 • f (byteOf d 3))
+            (y .m3 • f (byteOf a 0)));
         byte2 =
             sum .byte2 ∙ (λ i. p .byte0 i ⊕ q .byte3 i ⊕ y .m0 • f (byteOf c 2) ⊕ v .byte1 i)
             ∙ turn (y .m2 • f (byteOf a 0)) (y .m3 • f (byteOf b 1)) (y .m0 • f (byteOf c 2)) (y .m1 • f (byteOf d 3))
@@ -88,7 +96,8 @@ module _ (y : Way) (t : List ℕ) (shares : Shares y t) where
 
 -- a full round of the code
 pub full-round : (t w : List ℕ) (r : ℕ) (x k : Columns) → RoundKey w r k
-    → Round t w r (blockOf x) (fourWords (sharedWord t (x .a) (x .b) (x .c) (x .d) ⊕ k .a) (sharedWord t (x .b) (x .c) (x .d) (x .a) ⊕ k .b)
+    → Round t w r (blockOf x) (fourWords (sharedWord t (x .a) (x .b) (x .c) (x .d) ⊕ k .a)
+    (sharedWord t (x .b) (x .c) (x .d) (x .a) ⊕ k .b)
     (sharedWord t (x .c) (x .d) (x .a) (x .b) ⊕ k .c) (sharedWord t (x .d) (x .a) (x .b) (x .c) ⊕ k .d))
 unfolding roundBy movedBy addRoundKey mixWith shiftRows row
 full-round t w r x k h =
@@ -106,7 +115,8 @@ last-lt n = omega arith
 
 -- the substituted bytes of a column, from a table whose last bytes are they
 lowest-bytes : (y : Way) (u : List ℕ) → Puts y u → (a b c d : ℕ)
-    → Bytes (lowestWord u a b c d) (y .sub (byteOf a 0)) (y .sub (byteOf b 1)) (y .sub (byteOf c 2)) (y .sub (byteOf d 3))
+    → Bytes (lowestWord u a b c d) (y .sub (byteOf a 0)) (y .sub (byteOf b 1)) (y .sub (byteOf c 2))
+    (y .sub (byteOf d 3))
 lowest-bytes y u puts a b c d =
     let p = picked-bytes (λ x. x % 256) u a b c d (λ k lt. last-lt (at u k)) in
     record {
@@ -118,7 +128,8 @@ lowest-bytes y u puts a b c d =
 
 -- the last round of the code
 pub last-round : (u w : List ℕ) (x k : Columns) → RoundKey w 10 k
-    → Last u w (blockOf x) (fourWords (lowestWord u (x .a) (x .b) (x .c) (x .d) ⊕ k .a) (lowestWord u (x .b) (x .c) (x .d) (x .a) ⊕ k .b)
+    → Last u w (blockOf x) (fourWords (lowestWord u (x .a) (x .b) (x .c) (x .d) ⊕ k .a)
+    (lowestWord u (x .b) (x .c) (x .d) (x .a) ⊕ k .b)
     (lowestWord u (x .c) (x .d) (x .a) (x .b) ⊕ k .c) (lowestWord u (x .d) (x .a) (x .b) (x .c) ⊕ k .d))
 unfolding lastBy movedBy addRoundKey shiftRows
 last-round u w x k h =

@@ -23,7 +23,8 @@ tabulate-same (suc n) f g h =
 pub part-tabulated : (n : ℕ) (l : List ℕ) (k : ℕ) → k + n ≤ length l → tabulate n (λ i. at l (k + i)) ≡ partAt k n l
 unfolding partAt
 part-tabulated n l k h =
-    tabulate-same n (λ i. at l (k + i)) (at (partAt k n l)) (λ i lt. sym (getD-take n (drop k l) i 0 lt ∙ getD-drop k l i 0))
+    tabulate-same n (λ i. at l (k + i)) (at (partAt k n l))
+    (λ i lt. sym (getD-take n (drop k l) i 0 lt ∙ getD-drop k l i 0))
     ∙ sym (tabulated n (partAt k n l) (length-part k n l h))
 
 -- sixteen of them
@@ -43,7 +44,8 @@ four-sets l k a b c d = rw (add-one, add-two, add-three)
 
 sets-more : (xs l : List ℕ) (k : ℕ) (ys : List ℕ) → sets (sets l k xs) (k + length xs) ys ≡ sets l k (xs ++ ys)
 sets-more [] l k ys = ap (λ (n : ℕ). sets l n ys) (add-zero k)
-sets-more (x ∷ xs) l k ys = ap (λ (n : ℕ). sets (sets (set l k x) (suc k) xs) n ys) (add-suc k (length xs) ∙ sym (suc-add k (length xs))) ∙ sets-more xs (set l k x) (suc k) ys
+sets-more (x ∷ xs) l k ys = ap (λ (n : ℕ). sets (sets (set l k x) (suc k) xs) n ys)
+    (add-suc k (length xs) ∙ sym (suc-add k (length xs))) ∙ sets-more xs (set l k x) (suc k) ys
 
 -- the four bytes of a word
 abbrev wordBytes : ℕ → List ℕ
@@ -51,7 +53,8 @@ wordBytes x = byteOf x 0 ∷ byteOf x 1 ∷ byteOf x 2 ∷ byteOf x 3 ∷ []
 
 -- one word more behind those that were laid down
 word-more : (xs l r z : List ℕ) (k x : ℕ) → r ≡ sets l k xs
-    → z ≡ fourSet r (k + length xs) (byteOf x 0) (byteOf x 1) (byteOf x 2) (byteOf x 3) → z ≡ sets l k (xs ++ wordBytes x)
+    → z ≡ fourSet r (k + length xs) (byteOf x 0) (byteOf x 1) (byteOf x 2) (byteOf x 3)
+    → z ≡ sets l k (xs ++ wordBytes x)
 word-more xs l r z k x p q =
     q ∙ four-sets r (k + length xs) (byteOf x 0) (byteOf x 1) (byteOf x 2) (byteOf x 3)
     ∙ ap (λ (m : List ℕ). sets m (k + length xs) (wordBytes x)) p ∙ sets-more xs l k (wordBytes x)

@@ -25,7 +25,8 @@ pub puts-there : (t : List ℕ) → Table 256 mixedEntry t → Puts there t
 puts-there t h =
     record {
       entry = λ k lt.
-          byteOf-last (at t k) ∙ looked-up there t (shares-there t h) k lt .byte3 ∙ one-• (subByte k) (sub-undone .byte k lt);
+          byteOf-last (at t k) ∙ looked-up there t (shares-there t h) k lt .byte3
+          ∙ one-• (subByte k) (sub-undone .byte k lt);
     }
 
 -- the tables of the way back

@@ -7,7 +7,7 @@ use native.Mathlib.Omega.{arith}
 use Rattle.field.specs.Field.{_⊕_}
 use Rattle.field.specs.Mixing.{word}
 use Rattle.aes_standard.specs.State.{at, state, byteOf}
-use Rattle.rounds.specs.Words.{Bytes, Word, turned, fourWords, fourSet}
+use Rattle.rounds.specs.Words.{Bytes, WordAt, turned, fourWords, fourSet}
 use Rattle.aes_standard.proofs.WordBytes.{byteOf-lt}
 use Rattle.aes_standard.proofs.WordBytes.{byteOf-⊕}
 use Rattle.aes_standard.proofs.WordBytes.{byteOf-last}
@@ -35,14 +35,16 @@ pub turned-half : (w : ℕ) → w < 2 ^ 32 → w % 65536 * 65536 + w / 65536 ≡
 unfolding turned byteOf word
 turned-half w h =
     ap₂ (λ (x y : ℕ). x * 65536 + y) (halves w h .1) (halves w h .0)
-    ∙ regrouped (w / 256 % 256) (w % 256) (w / 16777216 % 256) (w / 65536 % 256) ∙ ap (λ (x : ℕ). word (w / 256 % 256) x (w / 16777216 % 256) (w / 65536 % 256)) (byteOf-last w)
+    ∙ regrouped (w / 256 % 256) (w % 256) (w / 16777216 % 256) (w / 65536 % 256)
+    ∙ ap (λ (x : ℕ). word (w / 256 % 256) x (w / 16777216 % 256) (w / 65536 % 256)) (byteOf-last w)
 
 pub word-bytes : (a b c d : ℕ) → a < 256 → b < 256 → c < 256 → d < 256 → Bytes (word a b c d) a b c d
 unfolding byteOf word
 word-bytes a b c d ha hb hc hd = omega arith
 
 pub turned-bytes : (w n : ℕ)
-    → Bytes (turned w n) (byteOf w ((4 - n) % 4)) (byteOf w ((5 - n) % 4)) (byteOf w ((6 - n) % 4)) (byteOf w ((7 - n) % 4))
+    → Bytes (turned w n) (byteOf w ((4 - n) % 4)) (byteOf w ((5 - n) % 4)) (byteOf w ((6 - n) % 4))
+    (byteOf w ((7 - n) % 4))
 unfolding turned
 turned-bytes w n =
     word-bytes (byteOf w ((4 - n) % 4)) (byteOf w ((5 - n) % 4)) (byteOf w ((6 - n) % 4)) (byteOf w ((7 - n) % 4))
@@ -85,7 +87,7 @@ four-bytes p q r s i =
     ∷ r .byte0 i ∷ r .byte1 i ∷ r .byte2 i ∷ r .byte3 i ∷ s .byte0 i ∷ s .byte1 i ∷ s .byte2 i ∷ s .byte3 i ∷ []
 
 -- the bytes of a word that stands at place k + j, by places counted from k
-placed : (l : List ℕ) (k j w : ℕ) → Word (at l (k + j)) (at l (k + j + 1)) (at l (k + j + 2)) (at l (k + j + 3)) w
+placed : (l : List ℕ) (k j w : ℕ) → WordAt l (k + j) w
     → Bytes w (at l (k + j)) (at l (k + (j + 1))) (at l (k + (j + 2))) (at l (k + (j + 3)))
 placed l k j w h =
     record {
@@ -96,11 +98,14 @@ placed l k j w h =
     }
 
 -- the block of the four words that stand from place k on
-pub loaded-at : (l : List ℕ) (k a b c d : ℕ) → Word (at l k) (at l (k + 1)) (at l (k + 2)) (at l (k + 3)) a
-    → Word (at l (k + 4)) (at l (k + 4 + 1)) (at l (k + 4 + 2)) (at l (k + 4 + 3)) b
-    → Word (at l (k + 8)) (at l (k + 8 + 1)) (at l (k + 8 + 2)) (at l (k + 8 + 3)) c
-    → Word (at l (k + 12)) (at l (k + 12 + 1)) (at l (k + 12 + 2)) (at l (k + 12 + 3)) d
+pub loaded-at : (l : List ℕ) (k a b c d : ℕ) → WordAt l k a → WordAt l (k + 4) b → WordAt l (k + 8) c → WordAt l (k + 12) d
     → fourWords a b c d ≡ state (λ i. at l (k + i))
 loaded-at l k a b c d e f g h =
-    four-bytes (record { byte0 = e .byte0 ∙ ap (at l) (sym (add-zero k)); byte1 = e .byte1; byte2 = e .byte2; byte3 = e .byte3 })
+    four-bytes (record {
+      byte0 = e .byte0
+          ∙ ap (at l) (sym (add-zero k));
+      byte1 = e .byte1;
+      byte2 = e .byte2;
+      byte3 = e .byte3;
+    })
     (placed l k 4 b f) (placed l k 8 c g) (placed l k 12 d h)

@@ -1,4 +1,5 @@
--- The cipher and the equivalent inverse cipher (FIPS 197, sections 5.1 and 5.3.5) as two ways through the same rounds, and the tables that the code takes them by.
+-- The cipher and the equivalent inverse cipher (FIPS 197, sections 5.1 and 5.3.5) as two ways through the same rounds,
+-- and the tables that the code takes them by.
 use mathlib.Core.Path.{_≡_}
 use mathlib.Core.List.{List}
 use Prim.Native.Nat.{ℕ, zero, suc, _+_, _-_, _*_, _/_, _%_, _<_}
@@ -72,6 +73,7 @@ pub record Through (t u w s z : List ℕ) : Type 0 where
 unfoldable pub flipped : List ℕ → List ℕ
 flipped s = state (λ i. at s ((4 - i / 4) % 4 * 4 + i % 4))
 
--- The equivalent inverse cipher under the keys v, which stand in the order of their use with InvMixColumns of the inner ones (5.3.5).
+-- The equivalent inverse cipher under the keys v, which stand in the order of their use with InvMixColumns of the inner
+-- ones (5.3.5).
 unfoldable pub eqInvCipher : List ℕ → List ℕ → List ℕ
 eqInvCipher v s = flipped (cipherBy back v (flipped s))

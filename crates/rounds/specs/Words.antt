@@ -24,6 +24,10 @@ pub record Word (a b c d r : ℕ) : Type 0 where
   pub byte2 : byteOf r 2 ≡ c
   pub byte3 : byteOf r 3 ≡ d
 
+-- The word r of the four bytes that stand in a list from place k on.
+abbrev pub WordAt : List ℕ → ℕ → ℕ → Type 0
+WordAt l k r = Word (at l k) (at l (k + 1)) (at l (k + 2)) (at l (k + 3)) r
+
 -- A word with its last n bytes in front of the others.
 unfoldable pub turned : ℕ → ℕ → ℕ
 turned w n = word (byteOf w ((4 - n) % 4)) (byteOf w ((5 - n) % 4)) (byteOf w ((6 - n) % 4)) (byteOf w ((7 - n) % 4))
@@ -57,14 +61,17 @@ pub record RoundKey (w : List ℕ) (r : ℕ) (x : Columns) : Type 0 where
   pub third : x .c ≡ at w (r * 4 + 2)
   pub fourth : x .d ≡ at w (r * 4 + 3)
 
--- The shares of four bytes in one column, summed: the first byte of a, the second of b, the third of c and the fourth of d, through a table of the third row's shares.
+-- The shares of four bytes in one column, summed: the first byte of a, the second of b, the third of c and the fourth
+-- of d, through a table of the third row's shares.
 unfoldable pub sharedWord : List ℕ → ℕ → ℕ → ℕ → ℕ → ℕ
 sharedWord t a b c d =
     turned (at t (byteOf a 0)) 2 ⊕ turned (at t (byteOf b 1)) 3 ⊕ at t (byteOf c 2) ⊕ turned (at t (byteOf d 3)) 1
 
--- What g takes of a table's entries at the first byte of a, the second of b, the third of c and the fourth of d, in a word.
+-- What g takes of a table's entries at the first byte of a, the second of b, the third of c and the fourth of d, in a
+-- word.
 unfoldable pub pickedWord : (ℕ → ℕ) → List ℕ → ℕ → ℕ → ℕ → ℕ → ℕ
-pickedWord g t a b c d = word (g (at t (byteOf a 0))) (g (at t (byteOf b 1))) (g (at t (byteOf c 2))) (g (at t (byteOf d 3)))
+pickedWord g t a b c d = word (g (at t (byteOf a 0))) (g (at t (byteOf b 1))) (g (at t (byteOf c 2)))
+    (g (at t (byteOf d 3)))
 
 -- The entries themselves.
 abbrev pub substitutedWord : List ℕ → ℕ → ℕ → ℕ → ℕ → ℕ

@@ -5,7 +5,7 @@ ghost use lib.ListN.{length};
 ghost use Rattle.lists.specs.Parts.{putAt};
 ghost use Rattle.field.specs.Field.{_⊕_};
 ghost use Rattle.aes_standard.specs.State.{at, state, byteOf};
-ghost use Rattle.rounds.specs.Words.{changed, Word, Loaded, turned, blockOf, fourSet};
+ghost use Rattle.rounds.specs.Words.{WordAt, changed, Word, Loaded, turned, blockOf, fourSet};
 
 // The four columns of a state, the first row in the highest byte of each word.
 pub struct Columns {
@@ -51,9 +51,9 @@ pub fn turn_three(x: u32) -> u32
 }
 
 // The word of the four bytes that stand from place k on.
-fn word_at(b: &[u8], k: usize) -> u32
+pub fn word_at(b: &[u8], k: usize) -> u32
     requires { ⌜ k + 4 ≤ length (now b) ⌝ }
-    ensures { λ r. ⌜ Word (at (now (b .entry)) k) (at (now (b .entry)) (k + 1)) (at (now (b .entry)) (k + 2)) (at (now (b .entry)) (k + 3)) r ⌝ }
+    ensures { λ r. ⌜ WordAt (now (b .entry)) k r ⌝ }
 {
     word_of(b[k], b[k + 1], b[k + 2], b[k + 3])
 }

@@ -1,4 +1,5 @@
-// The rounds of the cipher on columns, through tables that the caller lends. The inverse cipher takes the same rounds by tables of its own.
+// The rounds of the cipher on columns, through tables that the caller lends; the inverse cipher takes the same rounds
+// by tables of its own.
 pub mod columns;
 
 use crate::columns::Columns;

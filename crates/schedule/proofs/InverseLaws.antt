@@ -1,4 +1,5 @@
--- The equivalent inverse cipher is the inverse cipher, since InvMixColumns goes over the sum with a round key and all else goes over the change of columns.
+-- The equivalent inverse cipher is the inverse cipher, since InvMixColumns goes over the sum with a round key and all
+-- else goes over the change of columns.
 use mathlib.Core.Path.{_≡_, refl, sym, ap, _∙_}
 use mathlib.Core.List.{List, [], _∷_}
 use mathlib.Core.Logic.{⊎-elim}
@@ -13,7 +14,8 @@ use Rattle.field.proofs.Xor.{⊕-zero}
 use Rattle.field.proofs.MixingLaws.{row, row-⊕}
 use Rattle.field.proofs.SBoxLaws.{sub-undone}
 use Rattle.rounds.specs.declared.columns.Columns.{Columns}
-use Rattle.aes_standard.specs.State.{at, byteOf, shiftRows, mixWith, addRoundKey, invSubBytes, invShiftRows, invMixColumns}
+use Rattle.aes_standard.specs.State.{at, byteOf, shiftRows, mixWith, addRoundKey, invSubBytes, invShiftRows}
+use Rattle.aes_standard.specs.State.{invMixColumns}
 use Rattle.aes_standard.specs.Cipher.{invRound, invRounds, invCipher}
 use Rattle.rounds.specs.Ways.{back, movedBy, roundBy, roundsBy, lastBy, cipherBy, Shares, flipped, eqInvCipher}
 use Rattle.rounds.specs.Words.{RoundKey, fourSet, sharedWord, substitutedWord, changed}
@@ -37,10 +39,14 @@ unmixed-key s t k x v hs ht e f =
     let bt = shared-bytes back t ht x x x x in
     let ex : x ≡ substitutedWord s k k k k = e ∙ ⊕-zero (substitutedWord s k k k k) in
     let ev : v ≡ sharedWord t x x x x = f ∙ ⊕-zero (sharedWord t x x x x) in
-    let q0 : invSubByte (byteOf x 0) ≡ byteOf k 0 = ap (λ (z : ℕ). invSubByte (byteOf z 0)) ex ∙ ap invSubByte (bs .byte0) ∙ undone s hs k 0 in
-    let q1 : invSubByte (byteOf x 1) ≡ byteOf k 1 = ap (λ (z : ℕ). invSubByte (byteOf z 1)) ex ∙ ap invSubByte (bs .byte1) ∙ undone s hs k 1 in
-    let q2 : invSubByte (byteOf x 2) ≡ byteOf k 2 = ap (λ (z : ℕ). invSubByte (byteOf z 2)) ex ∙ ap invSubByte (bs .byte2) ∙ undone s hs k 2 in
-    let q3 : invSubByte (byteOf x 3) ≡ byteOf k 3 = ap (λ (z : ℕ). invSubByte (byteOf z 3)) ex ∙ ap invSubByte (bs .byte3) ∙ undone s hs k 3 in
+    let q0 : invSubByte (byteOf x 0) ≡ byteOf k 0 = ap (λ (z : ℕ). invSubByte (byteOf z 0)) ex
+    ∙ ap invSubByte (bs .byte0) ∙ undone s hs k 0 in
+    let q1 : invSubByte (byteOf x 1) ≡ byteOf k 1 = ap (λ (z : ℕ). invSubByte (byteOf z 1)) ex
+    ∙ ap invSubByte (bs .byte1) ∙ undone s hs k 1 in
+    let q2 : invSubByte (byteOf x 2) ≡ byteOf k 2 = ap (λ (z : ℕ). invSubByte (byteOf z 2)) ex
+    ∙ ap invSubByte (bs .byte2) ∙ undone s hs k 2 in
+    let q3 : invSubByte (byteOf x 3) ≡ byteOf k 3 = ap (λ (z : ℕ). invSubByte (byteOf z 3)) ex
+    ∙ ap invSubByte (bs .byte3) ∙ undone s hs k 3 in
     record {
       byte0 = ap (λ (z : ℕ). byteOf z 0) ev ∙ bt .byte0 ∙ (λ i. row 14 11 13 9 (q0 i) (q1 i) (q2 i) (q3 i));
       byte1 = ap (λ (z : ℕ). byteOf z 1) ev ∙ bt .byte1 ∙ (λ i. row 14 11 13 9 (q1 i) (q2 i) (q3 i) (q0 i));
@@ -113,19 +119,23 @@ four-other v k a b c d i lt =
     ∙ getD-set-other (set v k a) (k + 1) i b 0 (omega arith) ∙ getD-set-other v k i a 0 (omega arith)
 
 -- one more key of the inverse cipher
-pub keys-more : (w v v' : List ℕ) (n : ℕ) (y : Columns) → length v ≡ 44 → n < 11 → InverseKeys n w v → InverseKey w (10 - n) y
+pub keys-more : (w v v' : List ℕ) (n : ℕ) (y : Columns) → length v ≡ 44 → n < 11 → InverseKeys n w v
+    → InverseKey w (10 - n) y
     → v' ≡ fourSet v (n * 4) (y .a) (y .b) (y .c) (y .d) → InverseKeys (n + 1) w v'
 keys-more w v v' n y size lt h k e =
     rw e (record {
       key = λ r j below place.
           ⊎-elim (λ (same : r ≡ n). rw same (new j place))
-          (λ (l : r < n). rw (four-other v (n * 4) (y .a) (y .b) (y .c) (y .d) (r * 4 + j) (omega arith)) (h .key r j l place)) (eq-or-lt-of-le (omega arith));
+          (λ (l : r < n). rw (four-other v (n * 4) (y .a) (y .b) (y .c) (y .d) (r * 4 + j) (omega arith))
+          (h .key r j l place)) (eq-or-lt-of-le (omega arith));
     })
   where
     new : (j : ℕ) → j < 4
-        → Taken (10 - n) (at w ((10 - n) * 4 + (4 - j) % 4)) (at (fourSet v (n * 4) (y .a) (y .b) (y .c) (y .d)) (n * 4 + j))
+        → Taken (10 - n) (at w ((10 - n) * 4 + (4 - j) % 4))
+        (at (fourSet v (n * 4) (y .a) (y .b) (y .c) (y .d)) (n * 4 + j))
     new =
-        four-same v (n * 4) (y .a) (y .b) (y .c) (y .d) (omega arith) (λ j x. Taken (10 - n) (at w ((10 - n) * 4 + (4 - j) % 4)) x)
+        four-same v (n * 4) (y .a) (y .b) (y .c) (y .d) (omega arith)
+        (λ j x. Taken (10 - n) (at w ((10 - n) * 4 + (4 - j) % 4)) x)
         (k .first) (k .second) (k .third) (k .fourth)
 
 -- all keys of the inverse cipher
@@ -134,10 +144,14 @@ keys-all w v n e h = rw e at h
 
 -- a column with InvMixColumns, plus InvMixColumns of a word, is the column plus the word, with InvMixColumns
 record Column (p q r s k v : ℕ) : Type 0 where
-  byte0 : row 14 11 13 9 p q r s ⊕ byteOf v 0 ≡ row 14 11 13 9 (p ⊕ byteOf k 0) (q ⊕ byteOf k 1) (r ⊕ byteOf k 2) (s ⊕ byteOf k 3)
-  byte1 : row 14 11 13 9 q r s p ⊕ byteOf v 1 ≡ row 14 11 13 9 (q ⊕ byteOf k 1) (r ⊕ byteOf k 2) (s ⊕ byteOf k 3) (p ⊕ byteOf k 0)
-  byte2 : row 14 11 13 9 r s p q ⊕ byteOf v 2 ≡ row 14 11 13 9 (r ⊕ byteOf k 2) (s ⊕ byteOf k 3) (p ⊕ byteOf k 0) (q ⊕ byteOf k 1)
-  byte3 : row 14 11 13 9 s p q r ⊕ byteOf v 3 ≡ row 14 11 13 9 (s ⊕ byteOf k 3) (p ⊕ byteOf k 0) (q ⊕ byteOf k 1) (r ⊕ byteOf k 2)
+  byte0 : row 14 11 13 9 p q r s ⊕ byteOf v 0 ≡ row 14 11 13 9 (p ⊕ byteOf k 0) (q ⊕ byteOf k 1) (r ⊕ byteOf k 2)
+      (s ⊕ byteOf k 3)
+  byte1 : row 14 11 13 9 q r s p ⊕ byteOf v 1 ≡ row 14 11 13 9 (q ⊕ byteOf k 1) (r ⊕ byteOf k 2) (s ⊕ byteOf k 3)
+      (p ⊕ byteOf k 0)
+  byte2 : row 14 11 13 9 r s p q ⊕ byteOf v 2 ≡ row 14 11 13 9 (r ⊕ byteOf k 2) (s ⊕ byteOf k 3) (p ⊕ byteOf k 0)
+      (q ⊕ byteOf k 1)
+  byte3 : row 14 11 13 9 s p q r ⊕ byteOf v 3 ≡ row 14 11 13 9 (s ⊕ byteOf k 3) (p ⊕ byteOf k 0) (q ⊕ byteOf k 1)
+      (r ⊕ byteOf k 2)
 
 column : (p q r s k v : ℕ) → Unmixed k v → Column p q r s k v
 unfolding invMixColumns mixWith row
@@ -154,7 +168,8 @@ column p q r s k v u =
     }
 
 -- the same of a whole round key, on changed columns
-unmixed-over : (w v : List ℕ) (r q : ℕ) (s : List ℕ) → ((j : ℕ) → j < 4 → Unmixed (at w (q * 4 + (4 - j) % 4)) (at v (r * 4 + j)))
+unmixed-over : (w v : List ℕ) (r q : ℕ) (s : List ℕ)
+    → ((j : ℕ) → j < 4 → Unmixed (at w (q * 4 + (4 - j) % 4)) (at v (r * 4 + j)))
     → addRoundKey v r (flipped (invMixColumns s)) ≡ flipped (invMixColumns (addRoundKey w q s))
 unfolding addRoundKey flipped invMixColumns mixWith row
 unmixed-over w v r q s h =
@@ -190,7 +205,8 @@ module _ (w v : List ℕ) (keys : InverseKeys 11 w v) where
   round-back n s h =
       ap (λ (z : List ℕ). addRoundKey v (suc n) (mixWith 14 11 13 9 z)) (moved-back s)
       ∙ ap (addRoundKey v (suc n)) (mixed-back (invSubBytes (invShiftRows s)))
-      ∙ unmixed-over w v (suc n) (9 - n) (invSubBytes (invShiftRows s)) (λ j lt. taken j lt .inner (omega arith) (omega arith))
+      ∙ unmixed-over w v (suc n) (9 - n) (invSubBytes (invShiftRows s))
+      (λ j lt. taken j lt .inner (omega arith) (omega arith))
     where
       taken : (j : ℕ) → j < 4 → Taken (9 - n) (at w ((9 - n) * 4 + (4 - j) % 4)) (at v (suc n * 4 + j))
       taken j lt = let e : 10 - suc n ≡ 9 - n = omega arith in
@@ -199,7 +215,8 @@ module _ (w v : List ℕ) (keys : InverseKeys 11 w v) where
   rounds-back : (n : ℕ) (s : List ℕ) → n ≤ 9 → roundsBy back v n (flipped s) ≡ flipped (invRounds w n s)
   unfolding roundsBy invRounds
   rounds-back zero s h = refl
-  rounds-back (suc n) s h = ap (roundBy back v (suc n)) (rounds-back n s (omega arith)) ∙ round-back n (invRounds w n s) (omega arith)
+  rounds-back (suc n) s h = ap (roundBy back v (suc n)) (rounds-back n s (omega arith))
+      ∙ round-back n (invRounds w n s) (omega arith)
 
   -- the equivalent inverse cipher is the inverse cipher
   pub eqInvCipher-invCipher : (s : List ℕ) → eqInvCipher v s ≡ invCipher w s
@@ -208,7 +225,8 @@ module _ (w v : List ℕ) (keys : InverseKeys 11 w v) where
       let x = invRounds w 9 (addRoundKey w 10 s) in
       let z = invSubBytes (invShiftRows x) in
       ap (λ (l : List ℕ). flipped (addRoundKey v 10 (movedBy back l)))
-      (ap (roundsBy back v 9) (same-key w v 0 10 s (λ j h. keys .key 0 j (omega arith) h .last refl)) ∙ rounds-back 9 (addRoundKey w 10 s) (omega arith))
+      (ap (roundsBy back v 9) (same-key w v 0 10 s (λ j h. keys .key 0 j (omega arith) h .last refl))
+      ∙ rounds-back 9 (addRoundKey w 10 s) (omega arith))
       ∙ ap (λ (l : List ℕ). flipped (addRoundKey v 10 l)) (moved-back x)
       ∙ ap flipped (same-key w v 10 0 z (λ j h. keys .key 10 j (omega arith) h .first refl))
       ∙ twice w 0 z

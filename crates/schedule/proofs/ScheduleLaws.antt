@@ -20,7 +20,8 @@ use Rattle.aes_standard.proofs.WordBytes.{byteOf-lt}
 pub sub-word : (t : List ℕ) (w : ℕ) → Table 256 subByte t → substitutedWord t w w w w ≡ subWord w
 unfolding pickedWord subWord
 sub-word t w h i =
-    word (h .entry (byteOf w 0) (byteOf-lt w 0) i) (h .entry (byteOf w 1) (byteOf-lt w 1) i) (h .entry (byteOf w 2) (byteOf-lt w 2) i)
+    word (h .entry (byteOf w 0) (byteOf-lt w 0) i) (h .entry (byteOf w 1) (byteOf-lt w 1) i)
+    (h .entry (byteOf w 2) (byteOf-lt w 2) i)
     (h .entry (byteOf w 3) (byteOf-lt w 3) i)
 
 pub turned-rot : (w : ℕ) → turned w 3 ≡ rotWord w
@@ -38,7 +39,8 @@ fourth : (n i a b c d e : ℕ) → i % 4 ≡ 0 → e ≡ a ⊕ (subWord (rotWord
 unfolding wordsFrom
 fourth n i a b c d e h p = rw (p, eq-eqb (i % 4) 0 h)
 
-other : (n i a b c d e : ℕ) → (i % 4 ≡ 0 → ⊥) → e ≡ a ⊕ d → wordsFrom (suc n) i a b c d ≡ e ∷ wordsFrom n (suc i) b c d e
+other : (n i a b c d e : ℕ) → (i % 4 ≡ 0 → ⊥) → e ≡ a ⊕ d
+    → wordsFrom (suc n) i a b c d ≡ e ∷ wordsFrom n (suc i) b c d e
 unfolding wordsFrom
 other n i a b c d e h p = rw (p, ne-eqb (i % 4) 0 h)
 
@@ -79,7 +81,8 @@ laid-first key w x len h =
     record {
       size = simp length-set len;
       rest =
-          ap (λ (l : List ℕ). l ++ wordsFrom 40 4 (x .a) (x .b) (x .c) (x .d)) (laid w 0 (x .a) (x .b) (x .c) (x .d) len (omega arith))
+          ap (λ (l : List ℕ). l ++ wordsFrom 40 4 (x .a) (x .b) (x .c) (x .d))
+          (laid w 0 (x .a) (x .b) (x .c) (x .d) len (omega arith))
           ∙ rw (h .first, h .second, h .third, h .fourth);
     }
 
@@ -97,7 +100,8 @@ laid-next key w r x y lt h before =
           ap₂ (λ (l m : List ℕ). l ++ m)
           (laid w ((r + 1) * 4) (y .a) (y .b) (y .c) (y .d) (before .size) (omega arith))
           (ap₂ (λ (n i : ℕ). wordsFrom n i (y .a) (y .b) (y .c) (y .d)) left place)
-          ∙ append-assoc (take ((r + 1) * 4) w) (y .a ∷ y .b ∷ y .c ∷ y .d ∷ []) (wordsFrom (36 - r * 4) (r * 4 + 8) (y .a) (y .b) (y .c) (y .d))
+          ∙ append-assoc (take ((r + 1) * 4) w) (y .a ∷ y .b ∷ y .c ∷ y .d ∷ [])
+          (wordsFrom (36 - r * 4) (r * 4 + 8) (y .a) (y .b) (y .c) (y .d))
           ∙ ap₂ (λ (n : ℕ) (m : List ℕ). take n w ++ m) so-far
           (sym (words-four (36 - r * 4) r x y h)
           ∙ ap (λ (n : ℕ). wordsFrom n (r * 4 + 4) (x .a) (x .b) (x .c) (x .d)) four)

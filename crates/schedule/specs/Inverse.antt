@@ -1,5 +1,7 @@
--- The equivalent inverse cipher (FIPS 197, section 5.3.5) as a way through the cipher's own rounds: its round keys stand in the order of their use, and in
--- each state and each round key the second and the fourth column have changed places, so that ShiftRows moves its rows to the right.
+-- The equivalent inverse cipher (FIPS 197, section 5.3.5) as a way through the cipher's own rounds: its round keys
+-- stand in the order of their use, and in
+-- each state and each round key the second and the fourth column have changed places, so that ShiftRows moves its rows
+-- to the right.
 use mathlib.Core.List.{List}
 use mathlib.Core.Path.{_≡_}
 use Prim.Native.Nat.{ℕ, _+_, _-_, _*_, _%_, _<_, _≤_}
@@ -14,7 +16,8 @@ pub record Unmixed (w v : ℕ) : Type 0 where
   pub byte2 : byteOf v 2 ≡ at (invMixColumns (fourWords w 0 0 0)) 2
   pub byte3 : byteOf v 3 ≡ at (invMixColumns (fourWords w 0 0 0)) 3
 
--- The word v is what the inverse cipher takes for the word w of round key r: InvMixColumns of it in rounds 1 to 9, and itself in rounds 0 and 10.
+-- The word v is what the inverse cipher takes for the word w of round key r: InvMixColumns of it in rounds 1 to 9, and
+-- itself in rounds 0 and 10.
 pub record Taken (r w v : ℕ) : Type 0 where
   pub first : r ≡ 0 → v ≡ w
   pub inner : 1 ≤ r → r ≤ 9 → Unmixed w v

@@ -13,41 +13,41 @@ use Rattle.lists.specs.Parts.{partAt, putAt}
 use Rattle.lists.specs.Words.{little, big, bigBytes, wordsBytes, xored, xoredBehind}
 use Rattle.lists.proofs.PartLaws.{length-put}
 use Rattle.field.specs.Field.{_⊕_}
-use Rattle.field.proofs.Xor.{⊕-zero}
-use Rattle.aes_standard.specs.State.{at, plus}
+use Rattle.aes_standard.specs.State.{at, state, plus}
 use Rattle.aes_standard.specs.Schedule.{keyExpansion}
 use Rattle.aes_standard.specs.Cipher.{cipher}
 use Rattle.aes_standard.proofs.RoundTrip.{cipher-length}
+use Rattle.field.specs.Mixing.{word}
+use Rattle.rounds.specs.declared.columns.Columns.{Columns}
+use Rattle.rounds.specs.Words.{WordAt, fourWords, blockOf}
+use Rattle.cmac.proofs.Steps.{last-added}
 use Rattle.rounds.proofs.StoreLaws.{part-tabulated}
 use Rattle.chain.proofs.ChainLaws.{take-put}
 use Rattle.cmac.specs.Subkeys.{lastByte}
 use Rattle.sealing.specs.Lines.{lineKey}
 use Rattle.sealing.specs.Stream.{counted, streamFrom, stream}
-use Rattle.sealing.proofs.TextLaws.{big-size}
+use Rattle.texts.proofs.TextLaws.{big-size}
 
 -- the code's hash with a number in its last byte
-pub count-is : (h : List ℕ) (j : ℕ)
-    → at h 0 ∷ at h 1 ∷ at h 2 ∷ at h 3 ∷ at h 4 ∷ at h 5 ∷ at h 6 ∷ at h 7 ∷ at h 8 ∷ at h 9 ∷ at h 10 ∷ at h 11 ∷ at h 12 ∷ at h 13 ∷ at h 14 ∷ (at h 15 ⊕ j) ∷ []
-    ≡ counted h j
-unfolding counted plus lastByte
-count-is h j i =
-    sym (⊕-zero (at h 0)) i ∷ sym (⊕-zero (at h 1)) i ∷ sym (⊕-zero (at h 2)) i ∷ sym (⊕-zero (at h 3)) i ∷ sym (⊕-zero (at h 4)) i ∷ sym (⊕-zero (at h 5)) i ∷ sym (⊕-zero (at h 6)) i ∷ sym (⊕-zero (at h 7)) i ∷ sym (⊕-zero (at h 8)) i ∷ sym (⊕-zero (at h 9)) i ∷ sym (⊕-zero (at h 10)) i ∷ sym (⊕-zero (at h 11)) i ∷ sym (⊕-zero (at h 12)) i ∷ sym (⊕-zero (at h 13)) i ∷ sym (⊕-zero (at h 14)) i ∷ (at h 15 ⊕ j) ∷ []
+pub count-is : (h : List ℕ) (x : Columns) (j : ℕ) → j < 256 → blockOf x ≡ state (at h)
+    → fourWords (x .a) (x .b) (x .c) (x .d ⊕ j) ≡ counted h j
+unfolding counted plus
+count-is h x j small load = last-added x j small ∙ ap (λ (b : List ℕ). plus b (lastByte j)) load
 
--- a word of eight bytes, the highest first
+-- the code's word of two halves, each of four bytes, the highest first
 regrouped : (a b c d e f g h : ℕ)
-    → a * 72057594037927936 + b * 281474976710656 + c * 1099511627776 + d * 4294967296 + e * 16777216 + f * 65536 + g * 256 + h
-    ≡ big (a ∷ b ∷ c ∷ d ∷ e ∷ f ∷ g ∷ h ∷ [])
-unfolding big little
+    → word a b c d * 4294967296 + word e f g h ≡ big (a ∷ b ∷ c ∷ d ∷ e ∷ f ∷ g ∷ h ∷ [])
+unfolding word big little
 regrouped a b c d e f g h = omega arith
 
-pub word-is : (l : List ℕ) (k : ℕ) → k + 8 ≤ length l
-    → at l k * 72057594037927936 + at l (k + 1) * 281474976710656 + at l (k + 2) * 1099511627776 + at l (k + 3) * 4294967296
-    + at l (k + 4) * 16777216 + at l (k + 5) * 65536 + at l (k + 6) * 256 + at l (k + 7)
-    ≡ big (partAt k 8 l)
-word-is l k h =
-    regrouped (at l k) (at l (k + 1)) (at l (k + 2)) (at l (k + 3)) (at l (k + 4)) (at l (k + 5)) (at l (k + 6)) (at l (k + 7))
-    ∙ ap (λ (n : ℕ). big (at l n ∷ at l (k + 1) ∷ at l (k + 2) ∷ at l (k + 3) ∷ at l (k + 4) ∷ at l (k + 5) ∷ at l (k + 6) ∷ at l (k + 7) ∷ [])) (sym (add-zero k))
-    ∙ ap big (part-tabulated 8 l k h)
+pub word-is : (l : List ℕ) (k x y : ℕ) → k + 8 ≤ length l → WordAt l k x → WordAt l (k + 4) y
+    → x * 4294967296 + y ≡ big (partAt k 8 l)
+word-is l k x y fits high low =
+    ap₂ (λ (m n : ℕ). m * 4294967296 + n) (high .is) (low .is)
+    ∙ regrouped (at l k) (at l (k + 1)) (at l (k + 2)) (at l (k + 3)) (at l (k + 4)) (at l (k + 4 + 1)) (at l (k + 4 + 2)) (at l (k + 4 + 3))
+    ∙ (λ i. big (at l (sym (add-zero k) i) ∷ at l (k + 1) ∷ at l (k + 2) ∷ at l (k + 3) ∷ at l (k + 4)
+    ∷ at l (add-assoc k 4 1 i) ∷ at l (add-assoc k 4 2 i) ∷ at l (add-assoc k 4 3 i) ∷ []))
+    ∙ ap big (part-tabulated 8 l k fits)
 
 -- the text of the hash as far as register i: what stands in front, and the registers behind
 pub record TextTo (i : ℕ) (r m : List ℕ) : Type 0 where

@@ -1,6 +1,5 @@
 // Protected lines: their MACs, sealed data lines, and the hash and key stream of Suspend; a DRK is lent as two words, the high one first.
 pub mod registers;
-mod text;
 
 ghost use mathlib.Core.Path.{_≡_};
 ghost use mathlib.Core.List.{_++_};
@@ -15,7 +14,7 @@ ghost use Rattle.sealing.specs.Lines.{drkOf, macOf, lineKey, codeMac, da
 pub(crate) fn signing_words(hi: u64, lo: u64) -> [u32; 44]
     ensures { λ r. ⌜ r ≡ keyExpansion (drkOf hi lo) ⌝ }
 {
-    aes::expand(&text::pair(hi, lo))
+    aes::expand(&texts::pair(hi, lo))
 }
 
 // The line key of a DRK.
@@ -30,7 +29,7 @@ pub(crate) fn line_key(hi: u64, lo: u64) -> [u8; 16]
 fn start_vector(w: &[u32; 44], address: u64) -> [u8; 16]
     ensures { λ r. ⌜ r ≡ cipher (now (w .entry)) (drkOf 0 address) ⌝ }
 {
-    aes::encipher(w, &text::pair(0, address))
+    aes::encipher(w, &texts::pair(0, address))
 }
 
 // The MAC of the 48 code bytes of the line at an address.
@@ -39,7 +38,7 @@ pub fn code_mac(hi: u64, lo: u64, address: u64, code: &[u8]) -> [u8; 16]
     ensures { λ r. ⌜ r ≡ codeMac (drkOf hi lo) address (now (code .entry)) ⌝ }
 {
     let mut m = [0u8; 57];
-    text::signed_text(2, address, code, &mut m);
+    texts::signed_text(2, address, code, &mut m);
     cmac::sign(&signing_words(hi, lo), &m)
 }
 
@@ -49,7 +48,7 @@ pub fn data_mac(hi: u64, lo: u64, address: u64, line: &[u8]) -> [u8; 16]
     ensures { λ r. ⌜ r ≡ dataMac (drkOf hi lo) address (now (line .entry)) ⌝ }
 {
     let mut m = [0u8; 73];
-    text::signed_text(3, address, line, &mut m);
+    texts::signed_text(3, address, line, &mut m);
     cmac::sign(&signing_words(hi, lo), &m)
 }
 
@@ -82,6 +81,6 @@ pub fn same(a: &[u8], b: &[u8]) -> bool
 pub fn derive(hi: u64, lo: u64, a: u64, b: u64) -> [u8; 16]
     ensures { λ r. ⌜ r ≡ macOf (drkOf hi lo) (bigBytes 8 a ++ bigBytes 8 b) ⌝ }
 {
-    let m = text::pair(a, b);
+    let m = texts::pair(a, b);
     cmac::sign(&signing_words(hi, lo), &m)
 }

@@ -1,5 +1,6 @@
 // The hash of the registers and the key stream that hides them (document 01, 'Suspend').
-use crate::text;
+use rounds::columns;
+use rounds::columns::Columns;
 ghost use mathlib.Core.Path.{_≡_};
 ghost use mathlib.Core.List.{_∷_};
 ghost use Prim.Native.Nat.{_+_, _≤_, _<_};
@@ -17,8 +18,8 @@ pub fn hash(hi: u64, lo: u64, r: [u64; 32]) -> [u8; 16]
     m[0] = 4;
     let mut i: usize = 1;
     while i < 32 {
-        let word = text::big(r[i]);
-        text::put(&word, &mut m, i * 8 - 7);
+        let word = texts::big(r[i]);
+        texts::put(&word, &mut m, i * 8 - 7);
         i += 1;
     }
     cmac::sign(&crate::signing_words(hi, lo), &m)
@@ -28,24 +29,13 @@ pub fn hash(hi: u64, lo: u64, r: [u64; 32]) -> [u8; 16]
 fn count(h: &[u8; 16], j: u8) -> [u8; 16]
     ensures { λ r. ⌜ r ≡ counted (now (h .entry)) j ⌝ }
 {
-    [
-        h[0],
-        h[1],
-        h[2],
-        h[3],
-        h[4],
-        h[5],
-        h[6],
-        h[7],
-        h[8],
-        h[9],
-        h[10],
-        h[11],
-        h[12],
-        h[13],
-        h[14],
-        h[15] ^ j,
-    ]
+    let x = columns::columns_of(h);
+    columns::bytes_of(Columns {
+        a: x.a,
+        b: x.b,
+        c: x.c,
+        d: x.d ^ j as u32,
+    })
 }
 
 // The key stream of a hash.
@@ -57,7 +47,7 @@ fn key_stream(hi: u64, lo: u64, h: &[u8; 16]) -> [u8; 256]
     let mut j: u8 = 0;
     while j < 16 {
         let block = aes::encipher(&w, &count(h, j));
-        text::put(&block, &mut s, (j as usize) * 16);
+        texts::put(&block, &mut s, (j as usize) * 16);
         j += 1;
     }
     s
@@ -68,19 +58,14 @@ pub fn word_at(s: &[u8], k: usize) -> u64
     requires { ⌜ k + 8 ≤ length (now s) ⌝ }
     ensures { λ r. ⌜ r ≡ big (partAt k 8 (now (s .entry))) ⌝ }
 {
-    wide(s[k]) * 72057594037927936
-        + wide(s[k + 1]) * 281474976710656
-        + wide(s[k + 2]) * 1099511627776
-        + wide(s[k + 3]) * 4294967296
-        + wide(s[k + 4]) * 16777216
-        + wide(s[k + 5]) * 65536
-        + wide(s[k + 6]) * 256
-        + wide(s[k + 7])
+    let high = columns::word_at(s, k);
+    let low = columns::word_at(s, k + 4);
+    wide(high) * 4294967296 + wide(low)
 }
 
-// A byte as a word.
-fn wide(x: u8) -> u64
-    ensures { λ r. ⌜ (r ≡ x) × (r < 256) ⌝ }
+// A half of a word as a word.
+fn wide(x: u32) -> u64
+    ensures { λ r. ⌜ (r ≡ x) × (r < 4294967296) ⌝ }
 {
     x as u64
 }

@@ -1,8 +1,8 @@
 // The tables of AES-128, each tied to FIPS 197's rule over GF(2^8) by one test of the whole table.
 //
-// A function that names a constant array copies it, so each table is handed out by value, once for a long piece of work, and lent on by `&`.
-// The last byte of each entry of `mixed` is SubBytes, so that the cipher needs no second table; the inverse S-box is one of words, so that both ciphers
-// end in the same way.
+// A function that names a constant array copies it, so each table is handed out by value, once for a long piece of
+// work, and lent on by `&`. The last byte of each entry of `mixed` is SubBytes, so that the cipher needs no second
+// table; the inverse S-box is one of words, so that both ciphers end in the same way.
 mod mixing;
 mod substitution;
 

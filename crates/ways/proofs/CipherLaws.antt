@@ -8,7 +8,8 @@ use Rattle.field.specs.Mixing.{mixedEntry, unmixedEntry}
 use Rattle.field.specs.Table.{Table}
 use Rattle.aes_standard.specs.State.{at, state, addRoundKey}
 use Rattle.aes_standard.specs.Cipher.{cipher}
-use Rattle.rounds.specs.Ways.{there, back, roundBy, roundsBy, lastBy, cipherBy, Round, Rounds, Last, Through, flipped, eqInvCipher}
+use Rattle.rounds.specs.Ways.{there, back, roundBy, roundsBy, lastBy, cipherBy, Round, Rounds, Last, Through, flipped}
+use Rattle.rounds.specs.Ways.{eqInvCipher}
 use Rattle.rounds.specs.Words.{changed, blockOf}
 use Rattle.rounds.specs.declared.columns.Columns.{Columns}
 use Rattle.aes_standard.proofs.RoundTrip.{cipher-state}
@@ -23,11 +24,16 @@ pub rounds-none : (t w s : List ℕ) → Rounds t w 0 s s
 unfolding roundsBy
 rounds-none t w s = record { by = λ y h. refl }
 
-pub rounds-more : (t w s : List ℕ) (n : ℕ) (x z : List ℕ) → Round t w (n + 1) x z → Rounds t w n s x → Rounds t w (n + 1) s z
+pub rounds-more : (t w s : List ℕ) (n : ℕ) (x z : List ℕ) → Round t w (n + 1) x z → Rounds t w n s x
+    → Rounds t w (n + 1) s z
 unfolding roundsBy
-rounds-more t w s n x z e h = record { by = λ y shares. e .by y shares ∙ rw add-one (ap (roundBy y w (suc n)) (h .by y shares)) }
+rounds-more t w s n x z e h = record {
+  by = λ y shares. e .by y shares
+      ∙ rw add-one (ap (roundBy y w (suc n)) (h .by y shares));
+}
 
-pub through-done : (t u w s x₀ : List ℕ) (n : ℕ) (x z : List ℕ) → n ≡ 9 → x₀ ≡ addRoundKey w 0 s → Rounds t w n x₀ x → Last u w x z
+pub through-done : (t u w s x₀ : List ℕ) (n : ℕ) (x z : List ℕ) → n ≡ 9 → x₀ ≡ addRoundKey w 0 s → Rounds t w n x₀ x
+    → Last u w x z
     → Through t u w s z
 unfolding cipherBy
 through-done t u w s x₀ n x z nine start h e =
@@ -40,7 +46,8 @@ through-done t u w s x₀ n x z nine start h e =
 pub through-there : (t w s z : List ℕ) → Table 256 mixedEntry t → Through t t w s z → z ≡ cipher w s
 through-there t w s z h run = run .by there (shares-there t h) (puts-there t h) ∙ there-cipher w s
 
-pub through-back : (t u v : List ℕ) (x f : Columns) (z : List ℕ) → Table 256 unmixedEntry t → Table 256 invSubByte u → f ≡ changed x
+pub through-back : (t u v : List ℕ) (x f : Columns) (z : List ℕ) → Table 256 unmixedEntry t → Table 256 invSubByte u
+    → f ≡ changed x
     → Through t u v (blockOf f) z → flipped z ≡ eqInvCipher v (blockOf x)
 unfolding eqInvCipher
 through-back t u v x f z h g turn run =

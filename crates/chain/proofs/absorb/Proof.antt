@@ -1,4 +1,4 @@
--- `aes::chain::absorb` meets its promise.
+-- `chain::absorb` meets its promise.
 use borrow.Author.Needs.{needs}
 use Prim.Native.Nat.{ℕ, _-_, _*_, _/_, _≤_}
 use mathlib.Core.Path.{_≡_, sym, ap, _∙_}
@@ -12,7 +12,8 @@ use Rattle.chain.proofs.absorb.Statement.{statement}
 use Rattle.chain.proofs.absorb.Tie as tie
 
 abbrev Inv-loop : tie.InvT-loop
-Inv-loop w before b n t x₀ i₀ x i = (i ≤ n) × (absorbed w n (blockOf x₀) b ≡ absorbed w (n - i) (blockOf x) (drop (i * 16) b))
+Inv-loop w before b n t x₀ i₀ x i = (i ≤ n)
+    × (absorbed w n (blockOf x₀) b ≡ absorbed w (n - i) (blockOf x) (drop (i * 16) b))
 
 abbrev μ-loop : tie.MeasureT-loop
 μ-loop w before b n t x₀ i₀ x i = n - i
@@ -24,8 +25,11 @@ returns c =
 
 loop-holds : tie.Need-loop-holds Inv-loop μ-loop
 loop-holds c =
-    let args = c .before .before .before .before .args in
-    (search needs, absorbed-start (args .w .now) (length (args .b .now) / 16) (blockOf (c .columns-of .result)) (args .b .now))
+    let args = c .before .before .before .before .args in (
+      search needs,
+      absorbed-start (args .w .now) (length (args .b .now) / 16) (blockOf (c .columns-of .result))
+          (args .b .now),
+    )
 
 link-requires : tie.Need-link-requires Inv-loop μ-loop
 link-requires c κs = (search needs, omega arith)
@@ -35,7 +39,8 @@ loop-again c =
     let args = c .before .before .before .before .before .before .before .before .args in
     let turn = c .before .before .before .loop in (
       search needs,
-      turn .inv .1 ∙ absorbed-one (args .w .now) (length (args .b .now) / 16) (turn .i) (blockOf (turn .x)) (args .b .now) (blockOf (c .link .result)) (omega arith) (c .link .ensures),
+      turn .inv .1 ∙ absorbed-one (args .w .now) (length (args .b .now) / 16) (turn .i) (blockOf (turn .x))
+          (args .b .now) (blockOf (c .link .result)) (omega arith) (c .link .ensures),
     )
 
 returns-2 : tie.Need-returns-2 Inv-loop μ-loop
@@ -43,7 +48,11 @@ unfolding lastOfChain
 returns-2 c =
     let args = c .before .before .before .before .before .before .before .args in
     let turn = c .before .before .loop in
-    c .bytes-of .ensures ∙ sym (absorbed-none (args .w .now) (length (args .b .now) / 16) (turn .i) (blockOf (turn .x)) (drop (turn .i * 16) (args .b .now)) (omega arith)) ∙ sym (turn .inv .1) ∙ ap (λ (z : List ℕ). absorbed (args .w .now) (length (args .b .now) / 16) z (args .b .now)) (c .before .before .before .columns-of .ensures .block) ∙ absorbed-from (args .w .now) (length (args .b .now) / 16) (args .before .now) (args .b .now) (omega
+    c .bytes-of .ensures ∙ sym (absorbed-none (args .w .now) (length (args .b .now) / 16) (turn .i) (blockOf (turn .x))
+    (drop (turn .i * 16) (args .b .now)) (omega arith)) ∙ sym (turn .inv .1)
+    ∙ ap (λ (z : List ℕ). absorbed (args .w .now) (length (args .b .now) / 16) z (args .b .now))
+    (c .before .before .before .columns-of .ensures .block)
+    ∙ absorbed-from (args .w .now) (length (args .b .now) / 16) (args .before .now) (args .b .now) (omega
     arith)
 
 pub absorb-spec : {M : Type 1} → statement M

@@ -1,4 +1,4 @@
--- `aes::chain::decrypt` meets its promise.
+-- `chain::decrypt` meets its promise.
 use Rattle.chain.proofs.ChainLaws.{eqDecrypt-cbcDecrypt}
 use mathlib.Core.Path.{_∙_}
 use borrow.Author.Needs.{needs}
@@ -8,8 +8,10 @@ use Rattle.chain.proofs.decrypt.Tie as tie
 returns : tie.Need-returns
 returns c =
     let args = c .before .before .before .before .before .before .before .before .before .args in
-    c .before .before .unchain .ensures ∙ eqDecrypt-cbcDecrypt (args .key .now) (c .before .before .before .before .before .before .before .expand
-    .result) (c .before .before .before .before .before .invert .result) (args .iv .now) (args .b .now) (c .before .before .before .before .before
+    c .before .before .unchain .ensures
+    ∙ eqDecrypt-cbcDecrypt (args .key .now) (c .before .before .before .before .before .before .before .expand
+    .result) (c .before .before .before .before .before .invert .result) (args .iv .now) (args .b .now)
+    (c .before .before .before .before .before
     .before .before .expand .ensures) (c .before .before .before .before .before .invert .ensures)
 
 pub decrypt-spec : {M : Type 1} → statement M

@@ -1,4 +1,4 @@
--- `aes::chain::link` meets its promise.
+-- `chain::link` meets its promise.
 use Rattle.chain.proofs.ChainLaws.{linked}
 use Rattle.ways.proofs.CipherLaws.{through-there}
 use Rattle.rounds.specs.Words.{blockOf}
@@ -10,9 +10,12 @@ returns : tie.Need-returns
 returns c =
     let args = c .before .before .before .before .args in
     let pre = c .before .before .before .before .pre in
-    linked (args .w .now) (args .b .now) (args .k) (blockOf (args .before)) (blockOf (c .before .before .columns-at .result)) (blockOf (c .before
-    .plus .result)) (blockOf (c .through .result)) (pre .1) (c .before .before .columns-at .ensures) (c .before .plus .ensures)
-    (through-there (args .t .now) (args .w .now) (blockOf (c .before .plus .result)) (blockOf (c .through .result)) (pre .0) (c .through .ensures))
+    linked (args .w .now) (args .b .now) (args .k) (blockOf (args .before))
+    (blockOf (c .before .before .columns-at .result)) (blockOf (c .before
+    .plus .result)) (blockOf (c .through .result)) (pre .1) (c .before .before .columns-at .ensures)
+    (c .before .plus .ensures)
+    (through-there (args .t .now) (args .w .now) (blockOf (c .before .plus .result)) (blockOf (c .through .result))
+    (pre .0) (c .through .ensures))
 
 pub link-spec : {M : Type 1} → statement M
 link-spec = tie.close (tie.spec (λ c κs. search needs) (λ c κs. search needs) (λ c κs. search needs) returns)

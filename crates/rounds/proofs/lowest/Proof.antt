@@ -1,4 +1,4 @@
--- `aes::rounds::lowest` meets its promise.
+-- `rounds::lowest` meets its promise.
 use Rattle.rounds.proofs.RoundLaws.{picked-is}
 use Prim.Native.Nat.{_%_}
 use Rattle.aes_standard.specs.State.{byteOf}
@@ -10,7 +10,8 @@ returns : tie.Need-returns
 unfolding byteOf
 returns c =
     let args = c .before .before .before .before .before .args in
-    picked-is (λ x. x % 256) (args .t .now) (args .a) (args .b) (args .c) (args .d) (args .k) _ (c .word-of .ensures .is)
+    picked-is (λ x. x % 256) (args .t .now) (args .a) (args .b) (args .c) (args .d) (args .k) _
+    (c .word-of .ensures .is)
 
 pub lowest-spec : {M : Type 1} → statement M
 lowest-spec =

@@ -1,4 +1,4 @@
--- `aes::rounds::round_key` meets its promise.
+-- `rounds::round_key` meets its promise.
 use mathlib.Core.Path.{refl, sym, ap}
 use native.Mathlib.Nat.{add-zero}
 use Rattle.aes_standard.specs.State.{at}

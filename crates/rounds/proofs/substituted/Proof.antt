@@ -1,4 +1,4 @@
--- `aes::rounds::substituted` meets its promise.
+-- `rounds::substituted` meets its promise.
 use Rattle.rounds.proofs.RoundLaws.{picked-is}
 use Rattle.aes_standard.specs.State.{byteOf}
 use borrow.Author.Needs.{needs}

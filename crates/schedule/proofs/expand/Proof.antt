@@ -1,4 +1,4 @@
--- `aes::schedule::expand` meets its promise.
+-- `schedule::expand` meets its promise.
 use Rattle.field.specs.Table.{Table}
 use lib.ListN.{replicate}
 use Rattle.field.specs.Mixing.{word}
@@ -33,15 +33,18 @@ loop-again c =
     let turn = c .before .before .before .before .before .loop in (
       search needs,
       turn .inv .1,
-      rw (c .put2 .ensures) (laid-next (c .before .before .before .before .before .before .before .before .before .before
-          .args .key .now) (turn .w) (turn .r) (turn .x) (c .before .before .next .result) (omega arith) (with-constant _ (turn .r) (turn .x) (c .before
+      rw (c .put2 .ensures) (laid-next
+          (c .before .before .before .before .before .before .before .before .before .before
+          .args .key .now) (turn .w) (turn .r) (turn .x) (c .before .before .next .result) (omega arith)
+          (with-constant _ (turn .r) (turn .x) (c .before
           .before .next .result) (turn .inv .1) (omega arith) (c .before .before .next .ensures)) (turn .inv .2)),
     )
 
 returns : tie.Need-returns Inv-loop μ-loop
 returns c =
     let turn = c .before .loop in
-    laid-all (c .before .before .before .before .before .before .args .key .now) (turn .w) (turn .r) (turn .x) (omega arith) (turn .inv .2)
+    laid-all (c .before .before .before .before .before .before .args .key .now) (turn .w) (turn .r) (turn .x)
+    (omega arith) (turn .inv .2)
 
 pub expand-spec : {M : Type 1} → statement M
 expand-spec =

@@ -1,4 +1,4 @@
--- `aes::schedule::inverse_key` meets its promise.
+-- `schedule::inverse_key` meets its promise.
 use Rattle.schedule.proofs.InverseLaws.{key-kept, key-unmixed}
 use native.Mathlib.Omega.{arith}
 use borrow.Author.Needs.{needs}
@@ -21,7 +21,8 @@ returns-3 : tie.Need-returns-3
 returns-3 c =
     let args = c .before .before .before .before .before .before .before .args in
     let key = c .before .before .before .before .before .before .round-key in
-    key-unmixed (args .w .now) (args .r) (key .result) _ (omega arith) (omega arith) (key .ensures) (c .before .before .before .unmixed .ensures)
+    key-unmixed (args .w .now) (args .r) (key .result) _ (omega arith) (omega arith) (key .ensures)
+    (c .before .before .before .unmixed .ensures)
     (c .before .before .unmixed2 .ensures) (c .before .unmixed3 .ensures) (c .unmixed4 .ensures)
 
 pub inverse-key-spec : {M : Type 1} → statement M

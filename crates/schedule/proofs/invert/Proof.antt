@@ -1,4 +1,4 @@
--- `aes::schedule::invert` meets its promise.
+-- `schedule::invert` meets its promise.
 use Rattle.schedule.proofs.InverseLaws.{keys-none, keys-more, keys-all}
 use Prim.Native.Nat.{_≤_, _-_}
 use mathlib.Core.Path.{_≡_, refl}
@@ -24,7 +24,8 @@ loop-again c =
     let key = c .before .before .inverse-key in (
       search needs,
       rw (c .put .ensures) (simp length-set (turn .inv .1)),
-      keys-more (c .before .before .before .before .before .before .before .before .before .args .w .now) (turn .v) _ (turn .r) (key .result) (turn .inv .1) (omega arith) (turn .inv .2)
+      keys-more (c .before .before .before .before .before .before .before .before .before .args .w .now) (turn .v) _
+          (turn .r) (key .result) (turn .inv .1) (omega arith) (turn .inv .2)
           (key .ensures) (c .put .ensures),
     )
 

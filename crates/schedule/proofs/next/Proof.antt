@@ -1,4 +1,4 @@
--- `aes::schedule::next` meets its promise.
+-- `schedule::next` meets its promise.
 use mathlib.Core.Path.{refl, ap}
 use Prim.Native.Nat.{ℕ}
 use lib.Bits.{bitXor}
@@ -13,8 +13,10 @@ unfolding _⊕_
 returns c =
     let args = c .before .before .before .before .before .args in
     record {
-      first = ap (λ (z : ℕ). bitXor (args .x .a) z) (fourth-part (args .t .now) (args .x .d) (c .before .before .before .before .turn-three
-          .result) (args .rcon) (c .before .before .before .substituted .result) (c .before .before .before .before .before .pre) (c .before .before .before
+      first = ap (λ (z : ℕ). bitXor (args .x .a) z)
+          (fourth-part (args .t .now) (args .x .d) (c .before .before .before .before .turn-three
+          .result) (args .rcon) (c .before .before .before .substituted .result)
+          (c .before .before .before .before .before .pre) (c .before .before .before
           .before .turn-three .ensures) (c .before .before .before .substituted .ensures));
       second = refl;
       third = refl;

@@ -10,7 +10,9 @@ use Rattle.tables.proofs.mixed.Tie as tie
 
 returns : tie.Need-returns
 unfolding _⊕_ xtimes productBy _•_ digit fromDigits affine inverses listedSub word share mixedEntry
-returns c = table-by 256 (λ k. share 2 3 1 1 (listedSub k)) mixedEntry (λ k h. ap (share 2 3 1 1) (listedSub-subByte k h)) _ refl tt
+returns c =
+    let mixing = share 2 3 1 1 in
+    table-by 256 (λ k. mixing (listedSub k)) mixedEntry (λ k h. ap mixing (listedSub-subByte k h)) _ refl tt
 
 pub mixed-spec : {M : Type 1} → statement M
 mixed-spec = tie.close (tie.spec returns)

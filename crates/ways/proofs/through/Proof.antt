@@ -1,4 +1,4 @@
--- `aes::cipher::through` meets its promise.
+-- `ways::through` meets its promise.
 use Rattle.ways.proofs.CipherLaws.{rounds-none, rounds-more, through-done}
 use native.Mathlib.Omega.{arith}
 use borrow.Author.Needs.{needs}
@@ -15,7 +15,11 @@ abbrev μ-loop : tie.MeasureT-loop
 μ-loop t u w x₀ n₀ x n = 9 - n
 
 loop-holds : tie.Need-loop-holds Inv-loop μ-loop
-loop-holds c = (search needs, rounds-none (c .before .args .t .now) (c .before .args .w .now) (blockOf (c .add-round-key .result)))
+loop-holds c = (
+  search needs,
+  rounds-none (c .before .args .t .now) (c .before .args .w .now)
+      (blockOf (c .add-round-key .result)),
+)
 
 loop-again : tie.Need-loop-again Inv-loop μ-loop
 loop-again c =
@@ -23,7 +27,8 @@ loop-again c =
     let start = c .before .before .before in
     let args = start .before .args in (
       search needs,
-      rounds-more (args .t .now) (args .w .now) (blockOf (start .add-round-key .result)) (turn .n) (blockOf (turn .x)) (blockOf (c .full .result))
+      rounds-more (args .t .now) (args .w .now) (blockOf (start .add-round-key .result)) (turn .n) (blockOf (turn .x))
+          (blockOf (c .full .result))
           (c .full .ensures) (turn .inv .1),
     )
 
@@ -32,8 +37,10 @@ returns c =
     let turn = c .before .before .loop in
     let start = c .before .before .before in
     let args = start .before .args in
-    through-done (args .t .now) (args .u .now) (args .w .now) (blockOf (args .block)) (blockOf (start .add-round-key .result)) (turn .n)
-    (blockOf (turn .x)) (blockOf (c .last .result)) (omega arith) (start .add-round-key .ensures) (turn .inv .1) (c .last .ensures)
+    through-done (args .t .now) (args .u .now) (args .w .now) (blockOf (args .block))
+    (blockOf (start .add-round-key .result)) (turn .n)
+    (blockOf (turn .x)) (blockOf (c .last .result)) (omega arith) (start .add-round-key .ensures) (turn .inv .1)
+    (c .last .ensures)
 
 pub through-spec : {M : Type 1} → statement M
 through-spec =

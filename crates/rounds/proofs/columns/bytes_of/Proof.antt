@@ -1,4 +1,4 @@
--- `aes::columns::bytes_of` meets its promise.
+-- `rounds::columns::bytes_of` meets its promise.
 use Rattle.rounds.proofs.StoreLaws.{put-all}
 use Rattle.rounds.specs.Words.{blockOf}
 use lib.ListN.{replicate}

@@ -1,4 +1,4 @@
--- `aes::columns::columns_at` meets its promise.
+-- `rounds::columns::columns_at` meets its promise.
 use Rattle.rounds.proofs.WordLaws.{loaded-at}
 use borrow.Author.Needs.{needs}
 use Rattle.rounds.proofs.columns.columns_at.Statement.{statement}
@@ -7,7 +7,8 @@ use Rattle.rounds.proofs.columns.columns_at.Tie as tie
 returns : tie.Need-returns
 returns c =
     let args = c .before .before .before .before .before .args in
-    loaded-at (args .b .now) (args .k) _ _ _ _ (c .before .before .before .word-at .ensures) (c .before .before .word-at2 .ensures) (c .before .word-at3 .ensures)
+    loaded-at (args .b .now) (args .k) _ _ _ _ (c .before .before .before .word-at .ensures)
+    (c .before .before .word-at2 .ensures) (c .before .word-at3 .ensures)
     (c .word-at4 .ensures)
 
 pub columns-at-spec : {M : Type 1} → statement M

@@ -1,4 +1,4 @@
--- `aes::columns::columns_of` meets its promise.
+-- `rounds::columns::columns_of` meets its promise.
 use Rattle.rounds.proofs.WordLaws.{loaded-at}
 use Rattle.aes_standard.specs.Schedule.{keyWord}
 use borrow.Author.Needs.{needs}
@@ -13,7 +13,8 @@ returns c =
     let d = c .before .before .word-at3 .ensures in
     let e = c .word-at4 .ensures in
     record {
-      block = loaded-at (c .before .before .before .before .before .before .before .before .args .b .now) 0 _ _ _ _ a b d e;
+      block = loaded-at (c .before .before .before .before .before .before .before .before .args .b .now)
+          0 _ _ _ _ a b d e;
       first = a .is;
       second = b .is;
       third = d .is;

@@ -1,4 +1,4 @@
--- `aes::columns::plus` meets its promise.
+-- `rounds::columns::plus` meets its promise.
 use Rattle.aes_standard.proofs.WordBytes.{byteOf-⊕}
 use Rattle.field.specs.Field.{_⊕_}
 use Rattle.rounds.proofs.columns.plus.Statement.{statement}

@@ -1,4 +1,4 @@
--- `aes::columns::put_word` meets its promise.
+-- `rounds::columns::put_word` meets its promise.
 use Rattle.rounds.proofs.WordLaws.{four-laid}
 use lib.ListN.{length-set}
 use native.Mathlib.Omega.{arith}

@@ -1,4 +1,4 @@
--- `aes::columns::store` meets its promise.
+-- `rounds::columns::store` meets its promise.
 use Rattle.rounds.proofs.StoreLaws.{stored}
 use borrow.Author.Needs.{needs}
 use Rattle.rounds.proofs.columns.store.Statement.{statement}

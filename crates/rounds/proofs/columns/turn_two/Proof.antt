@@ -1,4 +1,4 @@
--- `aes::columns::turn_two` meets its promise.
+-- `rounds::columns::turn_two` meets its promise.
 use Rattle.rounds.proofs.WordLaws.{turned-half}
 use native.Mathlib.Omega.{arith}
 use borrow.Author.Needs.{needs}

@@ -1,4 +1,4 @@
--- `aes::columns::word_of` meets its promise.
+-- `rounds::columns::word_of` meets its promise.
 use Rattle.field.specs.Mixing.{word}
 use Rattle.aes_standard.specs.State.{byteOf}
 use native.Mathlib.Omega.{arith}

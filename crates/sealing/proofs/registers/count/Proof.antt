@@ -1,4 +1,6 @@
 -- `sealing::registers::count` meets its promise.
+use mathlib.Core.Path.{_∙_}
+use native.Mathlib.Omega.{arith}
 use Rattle.field.specs.Field.{_⊕_}
 use Rattle.sealing.proofs.RegisterLaws.{count-is}
 use borrow.Author.Needs.{needs}
@@ -8,27 +10,10 @@ use Rattle.sealing.proofs.registers.count.Tie as tie
 returns : tie.Need-returns
 unfolding _⊕_
 returns c =
-    let args = c .before .before .before .before .before .before .before .before .before .before .before .before .before .before .before .before .args in
-    count-is (args .h .now) (args .j)
+    let load = c .before .before in
+    let args = load .before .args in
+    c .bytes-of .ensures
+    ∙ count-is (args .h .now) (load .columns-of .result) (args .j) (omega arith) (load .columns-of .ensures .block)
 
 pub count-spec : {M : Type 1} → statement M
-count-spec =
-    tie.close
-    (tie.spec
-    (λ c. search needs)
-    (λ c. search needs)
-    (λ c. search needs)
-    (λ c. search needs)
-    (λ c. search needs)
-    (λ c. search needs)
-    (λ c. search needs)
-    (λ c. search needs)
-    (λ c. search needs)
-    (λ c. search needs)
-    (λ c. search needs)
-    (λ c. search needs)
-    (λ c. search needs)
-    (λ c. search needs)
-    (λ c. search needs)
-    (λ c. search needs)
-    returns)
+count-spec = tie.close (tie.spec (λ c κs. search needs) (λ c κs. search needs) returns)

@@ -6,7 +6,7 @@ use native.Mathlib.Omega.{arith}
 use lib.ListN.{length}
 use Rattle.sealing.specs.Lines.{macOf}
 use Rattle.cmac.specs.Cmac.{cmac}
-use Rattle.sealing.proofs.TextLaws.{big-size}
+use Rattle.texts.proofs.TextLaws.{big-size}
 use Rattle.sealing.proofs.RegisterLaws.{TextTo, text-more, text-all}
 use Rattle.sealing.proofs.registers.hash.Statement.{statement}
 use Rattle.sealing.proofs.registers.hash.Tie as tie

@@ -6,62 +6,14 @@ use Rattle.sealing.proofs.registers.word_at.Tie as tie
 
 returns : tie.Need-returns
 returns c =
-    let args = c .before .before .before .before .before .before .before .before .before .before .before .before .before .before .before .before .before .args in
-    simp (
-      c .before .before .before .before .before .before .before .before .before .before .before .before .before .before .wide .ensures .0,
-      c
-          .before .before .before .before .before .before .before .before .before .before .before .before .wide2 .ensures .0,
-      c .before .before .before
-          .before .before .before .before .before .before .before .wide3 .ensures .0,
-      c .before .before .before .before .before .before .before .before
-          .wide4 .ensures .0,
-      c .before .before .before .before .before .before .wide5 .ensures .0,
-      c .before .before .before .before .wide6 .ensures .0,
-      c
-          .before .before .wide7 .ensures .0,
-      c .wide8 .ensures .0,
-    ) (word-is (args .s .now) (args .k) (c .before .before .before .before .before .before
-    .before .before .before .before .before .before .before .before .before .before .before .pre))
+    let low = c .before .before in
+    let high = low .before in
+    let start = high .before .before in
+    simp (c .before .wide .ensures .0, c .wide2 .ensures .0) (word-is (start .args .s .now) (start .args .k) _ _ (start .pre)
+    (high .word-at .ensures) (low .word-at2 .ensures))
 
 pub word-at-spec : {M : Type 1} → statement M
 word-at-spec =
     tie.close
-    (tie.spec
-    (λ c. search needs)
-    (λ c κs. search needs)
-    (λ c. search needs)
-    (λ c. search needs)
-    (λ c. search needs)
-    (λ c κs. search needs)
-    (λ c. search needs)
-    (λ c. search needs)
-    (λ c. search needs)
-    (λ c. search needs)
-    (λ c κs. search needs)
-    (λ c. search needs)
-    (λ c. search needs)
-    (λ c. search needs)
-    (λ c. search needs)
-    (λ c κs. search needs)
-    (λ c. search needs)
-    (λ c. search needs)
-    (λ c. search needs)
-    (λ c. search needs)
-    (λ c κs. search needs)
-    (λ c. search needs)
-    (λ c. search needs)
-    (λ c. search needs)
-    (λ c. search needs)
-    (λ c κs. search needs)
-    (λ c. search needs)
-    (λ c. search needs)
-    (λ c. search needs)
-    (λ c. search needs)
-    (λ c κs. search needs)
-    (λ c. search needs)
-    (λ c. search needs)
-    (λ c. search needs)
-    (λ c. search needs)
-    (λ c κs. search needs)
-    (λ c. search needs)
-    returns)
+    (tie.spec (λ c κs. search needs) (λ c. search needs) (λ c κs. search needs) (λ c κs. search needs)
+    (λ c. search needs) (λ c κs. search needs) (λ c. search needs) returns)
