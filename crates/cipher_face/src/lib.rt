@@ -45,7 +45,8 @@ pub extern "C" fn hq_cbc_encrypt(w: &[u32; 44], iv: &[u8; 16], bytes: &mut [u8])
 // CBC decryption of all whole blocks of a buffer, in place, under a key.
 #[no_mangle]
 pub extern "C" fn hq_cbc_decrypt(key: &[u8; 16], iv: &[u8; 16], bytes: &mut [u8])
-    ensures { λ _. ⌜ now (bytes .exit) ≡ cbcDecrypt (keyExpansion (now (key .entry))) (now (iv .entry)) (now (bytes .entry)) ⌝ }
+    ensures { λ _. ⌜ now (bytes .exit)
+        ≡ cbcDecrypt (keyExpansion (now (key .entry))) (now (iv .entry)) (now (bytes .entry)) ⌝ }
 {
     chain::decrypt(key, iv, bytes);
 }

@@ -20,7 +20,8 @@ use Rattle.cmac.specs.Subkeys.{shifted, lastByte, doubled, Shifted, subk
 use Rattle.cmac.specs.Cmac.{beforeLast, padded, lastBlock, cmac}
 
 -- the code's sum of two blocks
-pub summed : (a b x y r : List ℕ) → x ≡ state (at a) → y ≡ state (at b) → r ≡ state (λ i. at x i ⊕ at y i) → r ≡ plus a b
+pub summed : (a b x y r : List ℕ) → x ≡ state (at a) → y ≡ state (at b) → r ≡ state (λ i. at x i ⊕ at y i)
+    → r ≡ plus a b
 unfolding plus
 summed a b x y r load load' add = add ∙ ap₂ plus load load'
 
@@ -67,11 +68,13 @@ drop-replicate (suc n) (suc k) =
     drop-replicate n k ∙ ap (λ (j : ℕ). replicate {A = ℕ} j 0) e
 
 -- a message in front of zeros
-copied : (m b : List ℕ) → b ≡ take (length m) m ++ drop (length m) (replicate 16 0) → b ≡ m ++ replicate (16 - length m) 0
+copied : (m b : List ℕ) → b ≡ take (length m) m ++ drop (length m) (replicate 16 0)
+    → b ≡ m ++ replicate (16 - length m) 0
 copied m b e = e ∙ ap₂ _++_ (take-length m) (drop-replicate (length m) 16)
 
 -- a whole last block
-pub last-whole : (k1 k2 m b r : List ℕ) → length m ≡ 16 → b ≡ take (length m) m ++ drop (length m) (replicate 16 0) → r ≡ plus b k1
+pub last-whole : (k1 k2 m b r : List ℕ) → length m ≡ 16 → b ≡ take (length m) m ++ drop (length m) (replicate 16 0)
+    → r ≡ plus b k1
     → r ≡ lastBlock k1 k2 m
 unfolding lastBlock
 last-whole k1 k2 m b r size copy add =
@@ -81,7 +84,8 @@ last-whole k1 k2 m b r size copy add =
     ∙ rw (eq-eqb (length m) 16 size)
 
 -- a last block that is padded
-pub last-padded : (k1 k2 m b r : List ℕ) → length m ≤ 16 → (length m ≡ 16 → ⊥) → b ≡ take (length m) m ++ drop (length m) (replicate 16 0)
+pub last-padded : (k1 k2 m b r : List ℕ) → length m ≤ 16 → (length m ≡ 16 → ⊥)
+    → b ≡ take (length m) m ++ drop (length m) (replicate 16 0)
     → r ≡ plus (set b (length m) 0x80) k2 → r ≡ lastBlock k1 k2 m
 unfolding lastBlock padded zeros
 last-padded k1 k2 m b r small part copy add =
@@ -102,10 +106,12 @@ subkey2-is w k r first double = double ∙ ap doubled first
 
 -- the MAC
 pub signed : (w m k1 before last x r : List ℕ) (n : ℕ) → n ≡ beforeLast (length m) → k1 ≡ subkey1 w
-    → before ≡ lastOfChain w (replicate 16 0) (take n m) → last ≡ lastBlock k1 (doubled k1) (take (length m - n) (drop n m)) → x ≡ plus before last
+    → before ≡ lastOfChain w (replicate 16 0) (take n m)
+    → last ≡ lastBlock k1 (doubled k1) (take (length m - n) (drop n m)) → x ≡ plus before last
     → r ≡ cipher w x → r ≡ cmac w m
 unfolding cmac subkey2 zeros
 signed w m k1 before last x r n split key chain end add run =
     run ∙ ap (cipher w) (add ∙ ap₂ plus (chain ∙ ap (λ (k : ℕ). lastOfChain w (replicate 16 0) (take k m)) split)
-    (end ∙ ap (λ (t : List ℕ). lastBlock k1 (doubled k1) t) (take-all (length m - n) (drop n m) (rw (length-drop n m) (omega arith)))
+    (end ∙ ap (λ (t : List ℕ). lastBlock k1 (doubled k1) t)
+    (take-all (length m - n) (drop n m) (rw (length-drop n m) (omega arith)))
     ∙ ap₂ (λ (k : List ℕ) (j : ℕ). lastBlock k (doubled k) (drop j m)) key split))

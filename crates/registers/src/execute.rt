@@ -190,8 +190,8 @@ fn special(r: &[u64; 32], q: Special, w: u64, pc: u64) -> Special
         }
         34 => {
             let m = sealing::derive(q.drkhi, q.drklo, a, b);
-            x.word0 = sealing::registers::word_at(&m, 8);
-            x.word1 = sealing::registers::word_at(&m, 0);
+            x.word0 = texts::word_at(&m, 8);
+            x.word1 = texts::word_at(&m, 0);
             x.word2 = 0;
             x.word3 = 0;
             x

@@ -98,7 +98,8 @@ placed l k j w h =
     }
 
 -- the block of the four words that stand from place k on
-pub loaded-at : (l : List ℕ) (k a b c d : ℕ) → WordAt l k a → WordAt l (k + 4) b → WordAt l (k + 8) c → WordAt l (k + 12) d
+pub loaded-at : (l : List ℕ) (k a b c d : ℕ) → WordAt l k a → WordAt l (k + 4) b → WordAt l (k + 8) c
+    → WordAt l (k + 12) d
     → fourWords a b c d ≡ state (λ i. at l (k + i))
 loaded-at l k a b c d e f g h =
     four-bytes (record {

@@ -1,3 +1,3 @@
 -- The laws of `sealing`, file by file.
 pub mod LineLaws
-pub mod RegisterLaws
+pub mod StreamLaws

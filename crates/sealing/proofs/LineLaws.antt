@@ -12,10 +12,12 @@ use Rattle.aes_standard.specs.Cipher.{cipher}
 use Rattle.sealing.specs.Lines.{drkOf, lineKey, startVector}
 
 -- the code's block for the initialization vector
-vector-is : (drk : List ℕ) (address : ℕ) (k w iv : List ℕ) → k ≡ lineKey drk → w ≡ keyExpansion k → iv ≡ cipher w (drkOf 0 address)
+vector-is : (drk : List ℕ) (address : ℕ) (k w iv : List ℕ) → k ≡ lineKey drk → w ≡ keyExpansion k
+    → iv ≡ cipher w (drkOf 0 address)
     → iv ≡ startVector drk address
 unfolding startVector drkOf bigBytes littleBytes zeros
-vector-is drk address k w iv key words vector = vector ∙ ap (λ (z : List ℕ). cipher z (drkOf 0 address)) (words ∙ ap keyExpansion key)
+vector-is drk address k w iv key words vector = vector
+    ∙ ap (λ (z : List ℕ). cipher z (drkOf 0 address)) (words ∙ ap keyExpansion key)
 
 -- the code's way to a line sealed or opened: a chain under the line key, from the line's vector
 pub under-line-key : (cbc : List ℕ → List ℕ → List ℕ → List ℕ) (drk : List ℕ) (address : ℕ) (k w iv l : List ℕ)

@@ -1,4 +1,5 @@
--- The line key, the MACs of lines, and sealed data lines (document 01, 'Protected lines'); a DRK is a list of sixteen bytes, the highest first.
+-- The line key, the MACs of lines, and sealed data lines (document 01, 'Protected lines'); a DRK is a list of sixteen
+-- bytes, the highest first.
 use mathlib.Core.List.{List, [], _∷_, _++_}
 use Prim.Native.Nat.{ℕ}
 use Rattle.lists.specs.Bytes.{zeros}

@@ -11,7 +11,8 @@ use Rattle.sealing.specs.Lines.{lineKey}
 unfoldable pub counted : List ℕ → ℕ → List ℕ
 counted hash j = plus hash (lastByte j)
 
--- Blocks j, j + 1, .. of the key stream, n of them: AES under the line key of the hash with the block's number xored into its last byte.
+-- Blocks j, j + 1, .. of the key stream, n of them: AES under the line key of the hash with the block's number xored
+-- into its last byte.
 unfoldable pub streamFrom : List ℕ → List ℕ → ℕ → ℕ → List ℕ
 streamFrom w hash zero j = []
 streamFrom w hash (suc n) j = cipher w (counted hash j) ++ streamFrom w hash n (j + 1)

@@ -1,6 +1,4 @@
-// Protected lines: their MACs, sealed data lines, and the hash and key stream of Suspend; a DRK is lent as two words, the high one first.
-pub mod registers;
-
+// Protected lines: their MACs and sealed data lines; a DRK is two words, the high one first.
 ghost use mathlib.Core.Path.{_≡_};
 ghost use mathlib.Core.List.{_++_};
 ghost use lib.ListN.{length};
@@ -11,14 +9,14 @@ ghost use Rattle.aes_standard.specs.Cipher.{cipher};
 ghost use Rattle.sealing.specs.Lines.{drkOf, macOf, lineKey, codeMac, dataMac, enciphered, deciphered};
 
 // The words under which a DRK signs.
-pub(crate) fn signing_words(hi: u64, lo: u64) -> [u32; 44]
+pub fn signing_words(hi: u64, lo: u64) -> [u32; 44]
     ensures { λ r. ⌜ r ≡ keyExpansion (drkOf hi lo) ⌝ }
 {
     aes::expand(&texts::pair(hi, lo))
 }
 
 // The line key of a DRK.
-pub(crate) fn line_key(hi: u64, lo: u64) -> [u8; 16]
+pub fn line_key(hi: u64, lo: u64) -> [u8; 16]
     ensures { λ r. ⌜ r ≡ lineKey (drkOf hi lo) ⌝ }
 {
     let m = [1u8; 1];

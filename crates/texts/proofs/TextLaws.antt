@@ -1,16 +1,18 @@
 -- Numbers as bytes the way the code writes them, and a text laid down part by part.
-use mathlib.Core.Path.{_≡_, refl, sym, ap, ap₂, _∙_}
-use mathlib.Core.List.{List, [], _∷_, _++_, append-assoc, append-nil}
-use Prim.Native.Nat.{ℕ, zero, suc, _+_, _-_, _*_, _/_, _%_, _^_, _≤_}
-use native.Mathlib.Nat.{div-div-eq-div-mul, pow-suc}
+use mathlib.Core.Path.{_≡_, sym, ap, ap₂, _∙_}
+use mathlib.Core.List.{List, [], _∷_, _++_, append-nil}
+use Prim.Native.Nat.{ℕ, zero, suc, _+_, _*_, _/_, _%_, _^_, _≤_}
+use native.Mathlib.Nat.{add-zero, add-assoc, div-div-eq-div-mul, pow-suc}
 use native.Mathlib.Omega.{arith}
-use lib.ListN.{length, take, drop, set, length-drop, length-append, drop-of-length-le}
-use lib.Seq.{take-length, take-at, drop-at, take-all, drop-drop}
-use Rattle.lists.specs.Parts.{putAt}
-use Rattle.lists.specs.Words.{littleBytes, bigBytes}
+use lib.ListN.{length, drop, set, length-drop, drop-of-length-le}
+use lib.Seq.{take-at, drop-at}
+use Rattle.lists.specs.Parts.{partAt, putAt}
+use Rattle.lists.specs.Words.{little, big, littleBytes, bigBytes}
 use Rattle.lists.proofs.WordLaws.{length-bigBytes}
-use Rattle.aes_standard.specs.State.{byteOf}
-use Rattle.rounds.specs.Words.{fourWords}
+use Rattle.aes_standard.specs.State.{at, byteOf}
+use Rattle.field.specs.Mixing.{word}
+use Rattle.rounds.specs.Words.{WordAt, fourWords}
+use Rattle.rounds.proofs.StoreLaws.{part-tabulated}
 
 -- dividing by 256 again and again
 abbrev divided : ℕ → ℕ → ℕ
@@ -62,19 +64,23 @@ pair-is x y = ap₂ _++_ (halves x) (halves y)
 
 -- a byte, eight bytes and the rest, laid down one after the other
 pub text-laid : (prefix address : ℕ) (bytes out : List ℕ) → length out ≡ 9 + length bytes
-    → putAt 9 (length bytes) bytes (putAt 1 8 (bigBytes 8 address) (set out 0 prefix)) ≡ prefix ∷ (bigBytes 8 address ++ bytes)
+    → putAt 9 (length bytes) bytes (putAt 1 8 (bigBytes 8 address) (set out 0 prefix)) ≡ prefix
+    ∷ (bigBytes 8 address ++ bytes)
 unfolding putAt
 text-laid prefix address bytes [] h = absurd (omega arith)
 text-laid prefix address bytes (x ∷ out) h =
     let a = bigBytes 8 address in
     let e : length a ≡ 8 = length-bigBytes 8 address in
-    ap₂ (λ (p q : List ℕ). prefix ∷ (p ++ (bytes ++ drop (length bytes) q))) (take-at a (drop 8 out) 8 e) (drop-at a (drop 8 out) 8 e)
-    ∙ ap (λ (r : List ℕ). prefix ∷ (a ++ (bytes ++ r))) (drop-of-length-le (drop 8 out) {i = length bytes} (omega (arith, length-drop 8 out)))
+    ap₂ (λ (p q : List ℕ). prefix ∷ (p ++ (bytes ++ drop (length bytes) q))) (take-at a (drop 8 out) 8 e)
+    (drop-at a (drop 8 out) 8 e)
+    ∙ ap (λ (r : List ℕ). prefix ∷ (a ++ (bytes ++ r)))
+    (drop-of-length-le (drop 8 out) {i = length bytes} (omega (arith, length-drop 8 out)))
     ∙ ap (λ (r : List ℕ). prefix ∷ (a ++ r)) (append-nil bytes)
 
 -- the code's way to the text that is signed
 pub text-is : (prefix address : ℕ) (bytes out a l l' : List ℕ) → length out ≡ 9 + length bytes → a ≡ bigBytes 8 address
-    → l ≡ putAt 1 (length a) a (set out 0 prefix) → l' ≡ putAt 9 (length bytes) bytes l → l' ≡ prefix ∷ (bigBytes 8 address ++ bytes)
+    → l ≡ putAt 1 (length a) a (set out 0 prefix) → l' ≡ putAt 9 (length bytes) bytes l
+    → l' ≡ prefix ∷ (bigBytes 8 address ++ bytes)
 text-is prefix address bytes out a l l' h e f g =
     g
     ∙ ap (putAt 9 (length bytes) bytes)
@@ -83,3 +89,19 @@ text-is prefix address bytes out a l l' h e f g =
 
 pub big-size : (a : List ℕ) (address : ℕ) → a ≡ bigBytes 8 address → length a ≡ 8
 big-size a address e = ap length e ∙ length-bigBytes 8 address
+
+-- the code's word of two halves, each of four bytes, the highest first
+regrouped : (a b c d e f g h : ℕ)
+    → word a b c d * 4294967296 + word e f g h ≡ big (a ∷ b ∷ c ∷ d ∷ e ∷ f ∷ g ∷ h ∷ [])
+unfolding word big little
+regrouped a b c d e f g h = omega arith
+
+pub word-is : (l : List ℕ) (k x y : ℕ) → k + 8 ≤ length l → WordAt l k x → WordAt l (k + 4) y
+    → x * 4294967296 + y ≡ big (partAt k 8 l)
+word-is l k x y fits high low =
+    ap₂ (λ (m n : ℕ). m * 4294967296 + n) (high .is) (low .is)
+    ∙ regrouped (at l k) (at l (k + 1)) (at l (k + 2)) (at l (k + 3)) (at l (k + 4)) (at l (k + 4 + 1))
+    (at l (k + 4 + 2)) (at l (k + 4 + 3))
+    ∙ (λ i. big (at l (sym (add-zero k) i) ∷ at l (k + 1) ∷ at l (k + 2) ∷ at l (k + 3) ∷ at l (k + 4)
+    ∷ at l (add-assoc k 4 1 i) ∷ at l (add-assoc k 4 2 i) ∷ at l (add-assoc k 4 3 i) ∷ []))
+    ∙ ap big (part-tabulated 8 l k fits)

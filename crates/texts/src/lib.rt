@@ -3,10 +3,10 @@ use rounds::columns;
 use rounds::columns::Columns;
 ghost use mathlib.Core.Path.{_≡_};
 ghost use mathlib.Core.List.{_∷_, _++_};
-ghost use Prim.Native.Nat.{_+_, _≤_};
+ghost use Prim.Native.Nat.{_+_, _≤_, _<_};
 ghost use lib.ListN.{length};
-ghost use Rattle.lists.specs.Parts.{putAt};
-ghost use Rattle.lists.specs.Words.{bigBytes};
+ghost use Rattle.lists.specs.Parts.{partAt, putAt};
+ghost use Rattle.lists.specs.Words.{big, bigBytes};
 
 // The eight bytes of a word.
 pub fn big(x: u64) -> [u8; 8]
@@ -53,4 +53,21 @@ pub fn put(bytes: &[u8], out: &mut [u8], k: usize)
     ensures { λ _. ⌜ now (out .exit) ≡ putAt k (length (now (bytes .entry))) (now (bytes .entry)) (now (out .entry)) ⌝ }
 {
     bytes::copy(bytes, &mut out[k..]);
+}
+
+// The word of eight bytes, high first, from place k on.
+pub fn word_at(s: &[u8], k: usize) -> u64
+    requires { ⌜ k + 8 ≤ length (now s) ⌝ }
+    ensures { λ r. ⌜ r ≡ big (partAt k 8 (now (s .entry))) ⌝ }
+{
+    let high = columns::word_at(s, k);
+    let low = columns::word_at(s, k + 4);
+    wide(high) * 4294967296 + wide(low)
+}
+
+// A half of a word as a word.
+fn wide(x: u32) -> u64
+    ensures { λ r. ⌜ (r ≡ x) × (r < 4294967296) ⌝ }
+{
+    x as u64
 }

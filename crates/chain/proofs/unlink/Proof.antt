@@ -24,7 +24,9 @@ abbrev at-second : tie.After-put-word3 → tie.After-put-word2
 at-second third = third .before .before .before .before .before .before
 
 add-put-word : tie.Need-add-put-word
-add-put-word c = let start = at-start (c .before .before .before .before .before) in omega (arith, start .pre .1 .1, start .good)
+add-put-word c =
+    let start = at-start (c .before .before .before .before .before) in
+    omega (arith, start .pre .1 .1, start .good)
 
 put-word-requires-2 : tie.Need-put-word-requires-2
 put-word-requires-2 c κs =

@@ -16,7 +16,13 @@ returns c =
     let load = first .before in
     c .bytes-of .ensures
     ∙ doubled-is (load .before .args .b .now) (load .columns-of .result)
-    (record { a = first .shifted .result; b = second .shifted2 .result; c = third .shifted3 .result; d = d .shifted4 .result })
+    (record {
+      a = first .shifted .result;
+      b = second .shifted2 .result;
+      c = third .shifted3 .result;
+      d
+          = d .shifted4 .result;
+    })
     (load .columns-of .ensures .block)
     (first .shifted .ensures) (second .shifted2 .ensures) (third .shifted3 .ensures) (d .shifted4 .ensures)
 

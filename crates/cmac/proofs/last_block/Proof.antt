@@ -12,7 +12,8 @@ returns c =
     let whole = c .before .before in
     let copied = whole .before .before in
     let args = copied .before .before .before .args in
-    last-whole (args .k1 .now) (doubled (args .k1 .now)) (args .m .now) _ _ (whole .if1 .taken) (copied .copy .ensures .1)
+    last-whole (args .k1 .now) (doubled (args .k1 .now)) (args .m .now) _ _ (whole .if1 .taken)
+    (copied .copy .ensures .1)
     (c .sum .ensures)
 
 returns-2 : tie.Need-returns-2
@@ -21,7 +22,8 @@ returns-2 c =
     let part = key .before .before in
     let copied = part .before .before in
     let start = copied .before .before .before in
-    last-padded (start .args .k1 .now) _ (start .args .m .now) _ _ (start .pre) (part .if1 .left) (copied .copy .ensures .1)
+    last-padded (start .args .k1 .now) _ (start .args .m .now) _ _ (start .pre) (part .if1 .left)
+    (copied .copy .ensures .1)
     (c .sum2 .ensures ∙ ap (plus _) (key .double .ensures))
 
 pub last-block-spec : {M : Type 1} → statement M

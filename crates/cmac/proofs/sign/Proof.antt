@@ -22,7 +22,8 @@ returns c =
     let args = key .before .before .args in
     signed (args .w .now) (args .m .now) (key .subkey1 .result) (chain .absorb .result) (end .last-block .result)
     (add .sum .result) (c .encipher .result) (split .before-last .result) (split .before-last .ensures .is)
-    (key .subkey1 .ensures) (chain .absorb .ensures) (end .last-block .ensures) (add .sum .ensures) (c .encipher .ensures)
+    (key .subkey1 .ensures) (chain .absorb .ensures) (end .last-block .ensures) (add .sum .ensures)
+    (c .encipher .ensures)
 
 pub sign-spec : {M : Type 1} → statement M
 sign-spec =

@@ -8,7 +8,8 @@ returns : tie.Need-returns
 returns c =
     let first = c .before .before in
     let args = first .before .args in
-    subkey2-is (args .w .now) (first .subkey1 .result) (c .double .result) (first .subkey1 .ensures) (c .double .ensures)
+    subkey2-is (args .w .now) (first .subkey1 .result) (c .double .result) (first .subkey1 .ensures)
+    (c .double .ensures)
 
 pub subkey2-spec : {M : Type 1} → statement M
 subkey2-spec = tie.close (tie.spec (λ c κs. search needs) (λ c κs. search needs) returns)

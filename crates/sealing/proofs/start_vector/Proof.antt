@@ -8,7 +8,8 @@ use Rattle.sealing.proofs.start_vector.Tie as tie
 
 returns : tie.Need-returns
 unfolding drkOf
-returns c = c .encipher .ensures ∙ ap (cipher (c .before .before .before .args .w .now)) (c .before .before .pair .ensures)
+returns c = c .encipher .ensures
+    ∙ ap (cipher (c .before .before .before .args .w .now)) (c .before .before .pair .ensures)
 
 pub start-vector-spec : {M : Type 1} → statement M
 start-vector-spec = tie.close (tie.spec (λ c κs. search needs) (λ c κs. search needs) returns)

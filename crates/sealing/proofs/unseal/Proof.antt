@@ -14,7 +14,8 @@ returns c =
     let key = vector .before .before .before .before in
     let args = key .before .before .args in
     c .before .before .decrypt .ensures
-    ∙ under-line-key cbcDecrypt (drkOf (args .hi) (args .lo)) (args .address) (key .line-key .result) _ _ (args .line .now)
+    ∙ under-line-key cbcDecrypt (drkOf (args .hi) (args .lo)) (args .address) (key .line-key .result) _ _
+    (args .line .now)
     (key .line-key .ensures) (vector .before .before .expand .ensures) (vector .start-vector .ensures)
 
 pub unseal-spec : {M : Type 1} → statement M

@@ -10,4 +10,6 @@ returns c = c .bytes-of .ensures ∙ pair-is (c .before .args .hi) (c .before .a
 
 pub pair-spec : {M : Type 1} → statement M
 pair-spec =
-    tie.close (tie.spec (λ c. search needs) (λ c. search needs) (λ c. search needs) (λ c. search needs) (λ c κs. search needs) returns)
+    tie.close
+    (tie.spec (λ c. search needs) (λ c. search needs) (λ c. search needs) (λ c. search needs) (λ c κs. search needs)
+    returns)

@@ -10,11 +10,15 @@ use Rattle.texts.proofs.put.Tie as tie
 
 returns : tie.Need-returns
 returns c =
-    let args = c .before .before .before .before .before .before .args in
-    ap (λ (y : List ℕ). take (args .k) (args .out .now) ++ (y ++ drop (length (args .out .now) - (args .k)) (drop (args .k) (args .out .now)))) (c
-    .before .before .copy .ensures .1) ∙ rest-copied (args .out .now) (args .bytes .now) (args .k) (c .before .before .before .before .before .before
-    .pre)
+    let copied = c .before .before in
+    let start = copied .before .before .before .before in
+    let out = start .args .out .now in
+    let k = start .args .k in
+    ap (λ (y : List ℕ). take k out ++ (y ++ drop (length out - k) (drop k out))) (copied .copy .ensures .1)
+    ∙ rest-copied out (start .args .bytes .now) k (start .pre)
 
 pub put-spec : {M : Type 1} → statement M
 put-spec =
-    tie.close (tie.spec (λ c. search needs) (λ c. search needs) (λ c. search needs) (λ c κs. search needs) (λ c. search needs) returns)
+    tie.close
+    (tie.spec (λ c. search needs) (λ c. search needs) (λ c. search needs) (λ c κs. search needs) (λ c. search needs)
+    returns)

@@ -1,11 +1,11 @@
--- `sealing::registers::count` meets its promise.
+-- `hiding::count` meets its promise.
 use mathlib.Core.Path.{_∙_}
 use native.Mathlib.Omega.{arith}
 use Rattle.field.specs.Field.{_⊕_}
-use Rattle.sealing.proofs.RegisterLaws.{count-is}
+use Rattle.hiding.proofs.RegisterLaws.{count-is}
 use borrow.Author.Needs.{needs}
-use Rattle.sealing.proofs.registers.count.Statement.{statement}
-use Rattle.sealing.proofs.registers.count.Tie as tie
+use Rattle.hiding.proofs.count.Statement.{statement}
+use Rattle.hiding.proofs.count.Tie as tie
 
 returns : tie.Need-returns
 unfolding _⊕_

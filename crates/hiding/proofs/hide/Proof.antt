@@ -1,4 +1,4 @@
--- `sealing::registers::hide` meets its promise.
+-- `hiding::hide` meets its promise.
 use borrow.Author.Needs.{needs}
 use Prim.Native.Nat.{ℕ, _-_, _≤_}
 use mathlib.Core.Path.{_≡_, sym, ap, _∙_}
@@ -6,9 +6,10 @@ use mathlib.Core.List.{List}
 use native.Mathlib.Omega.{arith}
 use lib.ListN.{length}
 use Rattle.lists.specs.Words.{xoredBehind}
-use Rattle.sealing.proofs.RegisterLaws.{HiddenTo, hidden-none, hidden-more, hidden-all, stream-length}
-use Rattle.sealing.proofs.registers.hide.Statement.{statement}
-use Rattle.sealing.proofs.registers.hide.Tie as tie
+use Rattle.sealing.proofs.StreamLaws.{stream-length}
+use Rattle.hiding.proofs.RegisterLaws.{HiddenTo, hidden-none, hidden-more, hidden-all}
+use Rattle.hiding.proofs.hide.Statement.{statement}
+use Rattle.hiding.proofs.hide.Tie as tie
 
 abbrev Inv-loop : tie.InvT-loop
 Inv-loop hi lo h r s q₀ i₀ q i = (1 ≤ i) × (i ≤ 32) × (length r ≡ 32) × (length s ≡ 256) × HiddenTo i s r q
@@ -46,26 +47,13 @@ loop-again c =
 returns : tie.Need-returns Inv-loop μ-loop
 returns c =
     let turn = c .before .loop in
-    hidden-all (turn .i) _ _ (turn .q) (omega arith) (turn .inv .2) (turn .inv .4) ∙ ap (λ (s : List ℕ). xoredBehind 8 s (c .before .before .before
-    .args .t4)) (c .before .before .key-stream .ensures)
+    let stream = c .before .before in
+    hidden-all (turn .i) _ _ (turn .q) (omega arith) (turn .inv .2) (turn .inv .4)
+    ∙ ap (λ (s : List ℕ). xoredBehind 8 s (stream .before .args .t4)) (stream .key-stream .ensures)
 
 pub hide-spec : {M : Type 1} → statement M
 hide-spec =
     tie.close
-    (tie.spec
-    Inv-loop
-    μ-loop
-    (λ c κs. search needs)
-    loop-holds
-    (λ c. search needs)
-    (λ c. search needs)
-    slice-aggregate-word-at
-    (λ c. search needs)
-    (λ c. search needs)
-    word-at-requires
-    (λ c. search needs)
-    (λ c. search needs)
-    (λ c. search needs)
-    (λ c. search needs)
-    loop-again
-    returns)
+    (tie.spec Inv-loop μ-loop (λ c κs. search needs) loop-holds (λ c. search needs) (λ c. search needs)
+    slice-aggregate-word-at (λ c. search needs) (λ c. search needs) word-at-requires (λ c. search needs)
+    (λ c. search needs) (λ c. search needs) (λ c. search needs) loop-again returns)

@@ -7,25 +7,22 @@ use native.Mathlib.Nat.{add-zero, add-assoc, add-comm, zero-mul, suc-mul, eq-or-
 use native.Mathlib.Numerals.{add-one}
 use native.Mathlib.Omega.{arith}
 use lib.Bits.{bitXor}
-use lib.ListN.{length, take, drop, getD, set, length-set, length-append, drop-of-length-le}
+use lib.ListN.{length, take, drop, getD, set, length-set, drop-of-length-le}
 use lib.Seq.{take-all, drop-cons, getD-set-same, getD-set-other, ext-getD}
 use Rattle.lists.specs.Parts.{partAt, putAt}
-use Rattle.lists.specs.Words.{little, big, bigBytes, wordsBytes, xored, xoredBehind}
+use Rattle.lists.specs.Words.{big, bigBytes, wordsBytes, xored, xoredBehind}
 use Rattle.lists.proofs.PartLaws.{length-put}
 use Rattle.field.specs.Field.{_⊕_}
 use Rattle.aes_standard.specs.State.{at, state, plus}
 use Rattle.aes_standard.specs.Schedule.{keyExpansion}
 use Rattle.aes_standard.specs.Cipher.{cipher}
-use Rattle.aes_standard.proofs.RoundTrip.{cipher-length}
-use Rattle.field.specs.Mixing.{word}
 use Rattle.rounds.specs.declared.columns.Columns.{Columns}
-use Rattle.rounds.specs.Words.{WordAt, fourWords, blockOf}
+use Rattle.rounds.specs.Words.{fourWords, blockOf}
 use Rattle.cmac.proofs.Steps.{last-added}
-use Rattle.rounds.proofs.StoreLaws.{part-tabulated}
 use Rattle.chain.proofs.ChainLaws.{take-put}
 use Rattle.cmac.specs.Subkeys.{lastByte}
 use Rattle.sealing.specs.Lines.{lineKey}
 use Rattle.sealing.specs.Stream.{counted, streamFrom, stream}
 use Rattle.texts.proofs.TextLaws.{big-size}
 
 -- the code's hash with a number in its last byte
@@ -33,21 +30,6 @@ pub count-is : (h : List ℕ) (x : Columns) (j : ℕ) → j < 256 → blockOf x 
     → fourWords (x .a) (x .b) (x .c) (x .d ⊕ j) ≡ counted h j
 unfolding counted plus
 count-is h x j small load = last-added x j small ∙ ap (λ (b : List ℕ). plus b (lastByte j)) load
-
--- the code's word of two halves, each of four bytes, the highest first
-regrouped : (a b c d e f g h : ℕ)
-    → word a b c d * 4294967296 + word e f g h ≡ big (a ∷ b ∷ c ∷ d ∷ e ∷ f ∷ g ∷ h ∷ [])
-unfolding word big little
-regrouped a b c d e f g h = omega arith
-
-pub word-is : (l : List ℕ) (k x y : ℕ) → k + 8 ≤ length l → WordAt l k x → WordAt l (k + 4) y
-    → x * 4294967296 + y ≡ big (partAt k 8 l)
-word-is l k x y fits high low =
-    ap₂ (λ (m n : ℕ). m * 4294967296 + n) (high .is) (low .is)
-    ∙ regrouped (at l k) (at l (k + 1)) (at l (k + 2)) (at l (k + 3)) (at l (k + 4)) (at l (k + 4 + 1)) (at l (k + 4 + 2)) (at l (k + 4 + 3))
-    ∙ (λ i. big (at l (sym (add-zero k) i) ∷ at l (k + 1) ∷ at l (k + 2) ∷ at l (k + 3) ∷ at l (k + 4)
-    ∷ at l (add-assoc k 4 1 i) ∷ at l (add-assoc k 4 2 i) ∷ at l (add-assoc k 4 3 i) ∷ []))
-    ∙ ap big (part-tabulated 8 l k fits)
 
 -- the text of the hash as far as register i: what stands in front, and the registers behind
 pub record TextTo (i : ℕ) (r m : List ℕ) : Type 0 where
@@ -65,7 +47,8 @@ text-more i r m a m' low high size e put before =
       size = ap length put8 ∙ length-put (i * 8 - 7) 8 a m eight (omega (arith, before .size)) ∙ before .size;
       is =
           ap₂ (λ (n : ℕ) (l : List ℕ). take n l ++ wordsBytes 8 (drop (i + 1) r)) next put8
-          ∙ ap (λ (l : List ℕ). l ++ wordsBytes 8 (drop (i + 1) r)) (take-put (i * 8 - 7) 8 a m eight (omega (arith, before .size)))
+          ∙ ap (λ (l : List ℕ). l ++ wordsBytes 8 (drop (i + 1) r))
+          (take-put (i * 8 - 7) 8 a m eight (omega (arith, before .size)))
           ∙ append-assoc (take (i * 8 - 7) m) a (wordsBytes 8 (drop (i + 1) r))
           ∙ ap (λ (l : List ℕ). take (i * 8 - 7) m ++ l)
           (ap (λ (l : List ℕ). l ++ wordsBytes 8 (drop (i + 1) r)) e
@@ -98,9 +81,11 @@ stream-more j w h s b c s' lt count run sixteen put before =
       size = ap length put16 ∙ length-put (j * 16) 16 b s sixteen (omega (arith, before .size)) ∙ before .size;
       is =
           ap₂ (λ (n : ℕ) (l : List ℕ). take n l ++ streamFrom w h (16 - (j + 1)) (j + 1)) next put16
-          ∙ ap (λ (l : List ℕ). l ++ streamFrom w h (16 - (j + 1)) (j + 1)) (take-put (j * 16) 16 b s sixteen (omega (arith, before .size)))
+          ∙ ap (λ (l : List ℕ). l ++ streamFrom w h (16 - (j + 1)) (j + 1))
+          (take-put (j * 16) 16 b s sixteen (omega (arith, before .size)))
           ∙ append-assoc (take (j * 16) s) b (streamFrom w h (16 - (j + 1)) (j + 1))
-          ∙ ap (λ (l : List ℕ). take (j * 16) s ++ (l ++ streamFrom w h (16 - (j + 1)) (j + 1))) (run ∙ ap (cipher w) count)
+          ∙ ap (λ (l : List ℕ). take (j * 16) s ++ (l ++ streamFrom w h (16 - (j + 1)) (j + 1)))
+          (run ∙ ap (cipher w) count)
           ∙ ap (λ (n : ℕ). take (j * 16) s ++ streamFrom w h n j) (sym less)
           ∙ before .is;
     }
@@ -109,7 +94,8 @@ stream-none : (w h : List ℕ) (j : ℕ) → j ≡ 16 → streamFrom w h (16 - j
 unfolding streamFrom
 stream-none w h j e = let none : 16 - j ≡ 0 = omega arith in rw none
 
-pub stream-all : (drk : List ℕ) (j : ℕ) (k w h s : List ℕ) → j ≡ 16 → k ≡ lineKey drk → w ≡ keyExpansion k → StreamTo j w h s → s ≡ stream drk h
+pub stream-all : (drk : List ℕ) (j : ℕ) (k w h s : List ℕ) → j ≡ 16 → k ≡ lineKey drk → w ≡ keyExpansion k
+    → StreamTo j w h s → s ≡ stream drk h
 unfolding stream
 stream-all drk j k w h s e key words to =
     sym (append-nil s)
@@ -121,10 +107,12 @@ xored-at : (k : ℕ) (s : List ℕ) (i : ℕ) (l : List ℕ) (j : ℕ) → j < l
     → getD (xored k s i l) j 0 ≡ bitXor (getD l j 0) (big (partAt (i + j * k) k s))
 unfolding xored
 xored-at k s i [] j h = absurd (omega arith)
-xored-at k s i (x ∷ l) zero h = ap (λ (n : ℕ). bitXor x (big (partAt n k s))) (sym (ap (λ (n : ℕ). i + n) (zero-mul k) ∙ add-zero i))
+xored-at k s i (x ∷ l) zero h = ap (λ (n : ℕ). bitXor x (big (partAt n k s)))
+    (sym (ap (λ (n : ℕ). i + n) (zero-mul k) ∙ add-zero i))
 xored-at k s i (x ∷ l) (suc j) h =
     xored-at k s (i + k) l j (omega arith)
-    ∙ ap (λ (n : ℕ). bitXor (getD l j 0) (big (partAt n k s))) (add-assoc i k (j * k) ∙ ap (λ (n : ℕ). i + n) (add-comm k (j * k) ∙ sym (suc-mul j k)))
+    ∙ ap (λ (n : ℕ). bitXor (getD l j 0) (big (partAt n k s)))
+    (add-assoc i k (j * k) ∙ ap (λ (n : ℕ). i + n) (add-comm k (j * k) ∙ sym (suc-mul j k)))
 
 xored-length : (k : ℕ) (s : List ℕ) (i : ℕ) (l : List ℕ) → length (xored k s i l) ≡ length l
 unfolding xored
@@ -140,7 +128,8 @@ pub record HiddenTo (i : ℕ) (s r q : List ℕ) : Type 0 where
 pub hidden-none : (s r : List ℕ) → length r ≡ 32 → HiddenTo 1 s r r
 hidden-none s r size = record { size = size; first = refl; done = λ p low high. absurd (omega arith) }
 
-pub hidden-more : (i : ℕ) (s r q : List ℕ) (x : ℕ) → 1 ≤ i → i < 32 → x ≡ big (partAt (i * 8 - 8) 8 s) → HiddenTo i s r q
+pub hidden-more : (i : ℕ) (s r q : List ℕ) (x : ℕ) → 1 ≤ i → i < 32 → x ≡ big (partAt (i * 8 - 8) 8 s)
+    → HiddenTo i s r q
     → HiddenTo (i + 1) s r (set q i (bitXor (getD r i 0) x))
 hidden-more i s r q x low high e h =
     record {
@@ -162,16 +151,5 @@ hidden-all i s (z ∷ r) q e size h =
     each zero lt = h .first
     each (suc p) lt =
         h .done (suc p) (omega arith) (omega (arith, h .size))
-        ∙ ap (λ (n : ℕ). bitXor (getD r p 0) (big (partAt n 8 s))) (omega arith) ∙ sym (xored-at 8 s 0 r p (omega (arith, h .size)))
-
--- the key stream has 256 bytes
-streamFrom-length : (w h : List ℕ) (n j : ℕ) → length (streamFrom w h n j) ≡ n * 16
-unfolding streamFrom
-streamFrom-length w h zero j = refl
-streamFrom-length w h (suc n) j =
-    length-append (cipher w (counted h j)) (streamFrom w h n (j + 1))
-    ∙ ap₂ _+_ (cipher-length w (counted h j)) (streamFrom-length w h n (j + 1)) ∙ omega arith
-
-pub stream-length : (drk h : List ℕ) → length (stream drk h) ≡ 256
-unfolding stream
-stream-length drk h = streamFrom-length (keyExpansion (lineKey drk)) h 16 0
+        ∙ ap (λ (n : ℕ). bitXor (getD r p 0) (big (partAt n 8 s))) (omega arith)
+        ∙ sym (xored-at 8 s 0 r p (omega (arith, h .size)))

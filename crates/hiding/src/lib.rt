@@ -3,12 +3,10 @@ use rounds::columns;
 use rounds::columns::Columns;
 ghost use mathlib.Core.Path.{_≡_};
 ghost use mathlib.Core.List.{_∷_};
-ghost use Prim.Native.Nat.{_+_, _≤_, _<_};
-ghost use lib.ListN.{length, drop};
-ghost use Rattle.lists.specs.Parts.{partAt};
-ghost use Rattle.lists.specs.Words.{big, wordsBytes, xoredBehind};
+ghost use lib.ListN.{drop};
+ghost use Rattle.lists.specs.Words.{wordsBytes, xoredBehind};
 ghost use Rattle.sealing.specs.Lines.{drkOf, macOf};
 ghost use Rattle.sealing.specs.Stream.{counted, stream};
 
 // The hash of R1 to R31: the MAC of byte 4 and the registers, each eight bytes high first.
 pub fn hash(hi: u64, lo: u64, r: [u64; 32]) -> [u8; 16]
@@ -22,7 +20,7 @@ pub fn hash(hi: u64, lo: u64, r: [u64; 32]) -> [u8; 16]
         texts::put(&word, &mut m, i * 8 - 7);
         i += 1;
     }
-    cmac::sign(&crate::signing_words(hi, lo), &m)
+    cmac::sign(&sealing::signing_words(hi, lo), &m)
 }
 
 // The hash with j xored into its last byte.
@@ -42,7 +40,7 @@ fn count(h: &[u8; 16], j: u8) -> [u8; 16]
 fn key_stream(hi: u64, lo: u64, h: &[u8; 16]) -> [u8; 256]
     ensures { λ r. ⌜ r ≡ stream (drkOf hi lo) (now (h .entry)) ⌝ }
 {
-    let w = aes::expand(&crate::line_key(hi, lo));
+    let w = aes::expand(&sealing::line_key(hi, lo));
     let mut s = [0u8; 256];
     let mut j: u8 = 0;
     while j < 16 {
@@ -53,23 +51,6 @@ fn key_stream(hi: u64, lo: u64, h: &[u8; 16]) -> [u8; 256]
     s
 }
 
-// The word of eight bytes, high first, from place k on.
-pub fn word_at(s: &[u8], k: usize) -> u64
-    requires { ⌜ k + 8 ≤ length (now s) ⌝ }
-    ensures { λ r. ⌜ r ≡ big (partAt k 8 (now (s .entry))) ⌝ }
-{
-    let high = columns::word_at(s, k);
-    let low = columns::word_at(s, k + 4);
-    wide(high) * 4294967296 + wide(low)
-}
-
-// A half of a word as a word.
-fn wide(x: u32) -> u64
-    ensures { λ r. ⌜ (r ≡ x) × (r < 4294967296) ⌝ }
-{
-    x as u64
-}
-
 // Hides R1 to R31 by the key stream of a hash, or brings them back.
 pub fn hide(hi: u64, lo: u64, h: &[u8; 16], r: [u64; 32]) -> [u64; 32]
     ensures { λ q. ⌜ q ≡ xoredBehind 8 (stream (drkOf hi lo) (now (h .entry))) r ⌝ }
@@ -78,7 +59,7 @@ pub fn hide(hi: u64, lo: u64, h: &[u8; 16], r: [u64; 32]) -> [u64; 32]
     let mut q = r;
     let mut i: usize = 1;
     while i < 32 {
-        q[i] = r[i] ^ word_at(&s, i * 8 - 8);
+        q[i] = r[i] ^ texts::word_at(&s, i * 8 - 8);
         i += 1;
     }
     q
