@@ -4,3 +4,4 @@ pub mod Sane
 pub mod Phases
 pub mod Marked
 pub mod Traps
+pub mod DepotLaws

@@ -56,8 +56,8 @@ pub fn drk_derive(q: Special, a: u64, b: u64) -> Special
 {
     let mut x = q;
     let m = sealing::derive(q.drkhi, q.drklo, a, b);
-    x.word0 = sealing::registers::word_at(&m, 8);
-    x.word1 = sealing::registers::word_at(&m, 0);
+    x.word0 = texts::word_at(&m, 8);
+    x.word1 = texts::word_at(&m, 0);
     x.word2 = 0;
     x.word3 = 0;
     x

@@ -35,8 +35,8 @@ pub fn enter(r: &mut [u64; 32], q: Special, n: u64) -> Special
         return x;
     }
     let old = *r;
-    let h = sealing::registers::hash(q.drkhi, q.drklo, old);
-    let new = sealing::registers::hide(q.drkhi, q.drklo, &h, old);
+    let h = hiding::hash(q.drkhi, q.drklo, old);
+    let new = hiding::hide(q.drkhi, q.drklo, &h, old);
     replace(r, new);
     x.hash = h;
     x.address = q.pc;
@@ -67,8 +67,8 @@ fn resume(r: &mut [u64; 32], q: Special) -> Ended
 {
     let h = q.hash;
     let old = *r;
-    let back = sealing::registers::hide(q.drkhi, q.drklo, &h, old);
-    let again = sealing::registers::hash(q.drkhi, q.drklo, back);
+    let back = hiding::hide(q.drkhi, q.drklo, &h, old);
+    let again = hiding::hash(q.drkhi, q.drklo, back);
     if sealing::same(&again, &h) {
         let mut x = q;
         x.pc = q.epc;

@@ -1,5 +1,5 @@
 -- `sealing::same` meets its promise.
-use Rattle.sealing.proofs.Ways.{decides}
+use Rattle.sealing.proofs.LineLaws.{decides}
 use borrow.Author.Needs.{needs}
 use Rattle.sealing.proofs.same.Statement.{statement}
 use Rattle.sealing.proofs.same.Tie as tie
