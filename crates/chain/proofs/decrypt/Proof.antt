@@ -12,7 +12,8 @@ returns c =
     let words = inverse .before .before in
     let args = words .before .before .args in
     run .unchain .ensures
-    ∙ eqDecrypt-cbcDecrypt (args .key .now) (words .expand .result) (inverse .invert .result) (args .iv .now) (args .b .now)
+    ∙ eqDecrypt-cbcDecrypt (args .key .now) (words .expand .result) (inverse .invert .result) (args .iv .now)
+        (args .b .now)
     (words .expand .ensures) (inverse .invert .ensures)
 
 pub decrypt-spec : {M : Type 1} → statement M

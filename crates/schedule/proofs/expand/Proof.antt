@@ -38,7 +38,8 @@ loop-again c =
       search needs,
       turn .inv .1,
       rw (c .put2 .ensures) (laid-next (args .key .now) (turn .w) (turn .r) (turn .x) (next .result) (omega arith)
-          (with-constant _ (turn .r) (turn .x) (next .result) (turn .inv .1) (omega arith) (next .ensures)) (turn .inv .2)),
+          (with-constant _ (turn .r) (turn .x) (next .result) (turn .inv .1) (omega arith) (next .ensures))
+              (turn .inv .2)),
     )
 
 returns : tie.Need-returns Inv-loop μ-loop
