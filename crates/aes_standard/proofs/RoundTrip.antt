@@ -43,13 +43,13 @@ cipher-block w b h =
     (rounds-bytes w 9 (addRoundKey w 0 b) (addRoundKey-block w 0 b h .bytes)) .bytes)
 
 -- adding a round key and InvMixColumns look at sixteen bytes and no further
-key-state : (w : List ℕ) (r : ℕ) (y : List ℕ) → addRoundKey w r (state (at y)) ≡ addRoundKey w r y
+addRoundKey-state : (w : List ℕ) (r : ℕ) (y : List ℕ) → addRoundKey w r (state (at y)) ≡ addRoundKey w r y
 unfolding addRoundKey
-key-state w r y = refl
+addRoundKey-state w r y = refl
 
-unmix-state : (y : List ℕ) → invMixColumns (state (at y)) ≡ invMixColumns y
+invMixColumns-state : (y : List ℕ) → invMixColumns (state (at y)) ≡ invMixColumns y
 unfolding invMixColumns mixWith
-unmix-state y = refl
+invMixColumns-state y = refl
 
 first : (w s : List ℕ) → addRoundKey w 0 (state (at (rounds w 0 s))) ≡ addRoundKey w 0 s
 unfolding rounds addRoundKey
@@ -64,8 +64,8 @@ module _ (w s : List ℕ) (bytes : Bytes s) where
       let hx = moved-block (rounds w n s) (rounds-bytes w n s bytes) in
       ap (λ (z : List ℕ). invMixColumns (addRoundKey w (suc n) z))
       (rows-bytes-undone (rounds w (suc n) s) (rounds-bytes w (suc n) s bytes))
-      ∙ ap invMixColumns (key-state w (suc n) (rounds w (suc n) s) ∙ addRoundKey-again w (suc n) (mixColumns x))
-      ∙ unmix-state (mixColumns x) ∙ mixColumns-undone x (hx .bytes) ∙ block-state x hx
+      ∙ ap invMixColumns (addRoundKey-state w (suc n) (rounds w (suc n) s) ∙ addRoundKey-again w (suc n) (mixColumns x))
+      ∙ invMixColumns-state (mixColumns x) ∙ mixColumns-undone x (hx .bytes) ∙ block-state x hx
 
   -- n rounds back
   rounds-undone : (n m : ℕ) → m + n ≡ 9 → invRounds w n (moved (rounds w 9 s)) ≡ moved (rounds w m s)

@@ -20,34 +20,35 @@ use Rattle.schedule.proofs.InverseLaws.{eqInvCipher-invCipher}
 use Rattle.rounds.specs.Words.{fourWords, blockOf}
 use Rattle.rounds.proofs.WordLaws.{bytes-⊕, bytes-of, four-bytes}
 use Rattle.aes_standard.specs.Chain.{chained, unchained, absorbed, lastOfChain, cbcDecrypt}
-use Rattle.rounds.proofs.StoreLaws.{bytes-part}
+use Rattle.rounds.proofs.StoreLaws.{state-partAt}
 
 -- what stands before and behind a part that was replaced
-pub take-put : (a k : ℕ) (x l : List ℕ) → length x ≡ k → a ≤ length l → take (a + k) (putAt a k x l) ≡ take a l ++ x
+pub take-putAt : (a k : ℕ) (x l : List ℕ) → length x ≡ k → a ≤ length l → take (a + k) (putAt a k x l) ≡ take a l ++ x
 unfolding putAt
-take-put a k x l e h =
+take-putAt a k x l e h =
     ap (take (a + k)) (sym (append-assoc (take a l) x (drop k (drop a l))))
     ∙ take-at (take a l ++ x) (drop k (drop a l)) (a + k)
     (length-append (take a l) x ∙ ap₂ _+_ (length-take-le a l h) e)
 
-pub drop-put : (a k : ℕ) (x l : List ℕ) → length x ≡ k → a ≤ length l → drop (a + k) (putAt a k x l) ≡ drop k (drop a l)
+pub drop-putAt : (a k : ℕ) (x l : List ℕ) → length x ≡ k → a ≤ length l
+    → drop (a + k) (putAt a k x l) ≡ drop k (drop a l)
 unfolding putAt
-drop-put a k x l e h =
+drop-putAt a k x l e h =
     ap (drop (a + k)) (sym (append-assoc (take a l) x (drop k (drop a l))))
     ∙ drop-at (take a l ++ x) (drop k (drop a l)) (a + k)
     (length-append (take a l) x ∙ ap₂ _+_ (length-take-le a l h) e)
 
 -- the front of a buffer, and what f makes of the rest: the same after one more block c, where f takes c off
-advance : (f g : List ℕ → List ℕ) (i : ℕ) (l c : List ℕ) → length c ≡ 16 → i * 16 + 16 ≤ length l
+after-advance : (f g : List ℕ → List ℕ) (i : ℕ) (l c : List ℕ) → length c ≡ 16 → i * 16 + 16 ≤ length l
     → f (drop (i * 16) l) ≡ c ++ g (drop 16 (drop (i * 16) l))
     → take (i * 16) l ++ f (drop (i * 16) l)
     ≡ take ((i + 1) * 16) (putAt (i * 16) 16 c l) ++ g (drop ((i + 1) * 16) (putAt (i * 16) 16 c l))
-advance f g i l c e h step =
+after-advance f g i l c e h step =
     let next : i * 16 + 16 ≡ (i + 1) * 16 = omega arith in
     ap (λ (r : List ℕ). take (i * 16) l ++ r) step
     ∙ sym (append-assoc (take (i * 16) l) c (g (drop 16 (drop (i * 16) l))))
-    ∙ sym (ap₂ (λ (p q : List ℕ). p ++ g q) (take-put (i * 16) 16 c l e (omega arith))
-    (drop-put (i * 16) 16 c l e (omega arith)))
+    ∙ sym (ap₂ (λ (p q : List ℕ). p ++ g q) (take-putAt (i * 16) 16 c l e (omega arith))
+    (drop-putAt (i * 16) 16 c l e (omega arith)))
     ∙ ap (λ (k : ℕ). take k (putAt (i * 16) 16 c l) ++ g (drop k (putAt (i * 16) 16 c l))) next
 
 -- a loop over the blocks of a buffer after i of them: the answer is what stands in front, and what is still to be made
@@ -67,7 +68,7 @@ after-more i n answer whole l c l' f g lt blocks e put step before =
     let fits : i * 16 + 16 ≤ length l = omega (arith, before .size) in
     rw put (record {
       size = length-put (i * 16) 16 c l e fits ∙ before .size;
-      is = before .is ∙ advance f g i l c e fits step;
+      is = before .is ∙ after-advance f g i l c e fits step;
     })
 
 pub after-all : (i : ℕ) (answer whole l : List ℕ) (rest : List ℕ → List ℕ) → ((r : List ℕ) → rest r ≡ r)
@@ -132,32 +133,32 @@ absorbed-from w zero iv l h = absurd (omega arith)
 absorbed-from w (suc n) iv l h = refl
 
 -- the code's way to the next block of a chain
-pub linked : (w l : List ℕ) (k : ℕ) (before x y r : List ℕ) → k + 16 ≤ length l → x ≡ state (λ i. at l (k + i))
+pub link-is : (w l : List ℕ) (k : ℕ) (before x y r : List ℕ) → k + 16 ≤ length l → x ≡ state (λ i. at l (k + i))
     → y ≡ state (λ i. at before i ⊕ at x i) → r ≡ cipher w y → r ≡ cipher w (plus before (partAt k 16 l))
 unfolding plus
-linked w l k before x y r h load add run = run ∙ ap (cipher w) (add ∙ ap (plus before) (load ∙ bytes-part l k h))
+link-is w l k before x y r h load add run = run ∙ ap (cipher w) (add ∙ ap (plus before) (load ∙ state-partAt l k h))
 
 -- the code's way back from a block of a chain: its words, the second and the fourth changed about, plus those of the
 -- block before
-pub unlinked : (v l x : List ℕ) (k : ℕ) (z before : Columns) → k + 16 ≤ length l → x ≡ state (λ i. at l (k + i))
+pub unlink-is : (v l x : List ℕ) (k : ℕ) (z before : Columns) → k + 16 ≤ length l → x ≡ state (λ i. at l (k + i))
     → flipped (blockOf z) ≡ eqInvCipher v x
     → fourWords (z .a ⊕ before .a) (z .d ⊕ before .b) (z .c ⊕ before .c) (z .b ⊕ before .d)
     ≡ plus (eqInvCipher v (partAt k 16 l)) (blockOf before)
 unfolding plus flipped
-unlinked v l x k z before h load run =
+unlink-is v l x k z before h load run =
     four-bytes (bytes-⊕ (bytes-of refl) (bytes-of refl)) (bytes-⊕ (bytes-of refl) (bytes-of refl))
     (bytes-⊕ (bytes-of refl) (bytes-of refl))
     (bytes-⊕ (bytes-of refl) (bytes-of refl))
-    ∙ ap (λ (s : List ℕ). plus s (blockOf before)) (run ∙ ap (eqInvCipher v) (load ∙ bytes-part l k h))
+    ∙ ap (λ (s : List ℕ). plus s (blockOf before)) (run ∙ ap (eqInvCipher v) (load ∙ state-partAt l k h))
 
 -- the start of a chain's last block, and a list with no whole block
 pub absorbed-start : (w : List ℕ) (n : ℕ) (before l : List ℕ)
     → absorbed w n before l ≡ absorbed w (n - 0) before (drop (0 * 16) l)
 absorbed-start w n before l = ap (λ (k : ℕ). absorbed w k before l) (sym (sub-zero n))
 
-pub no-block : (w before l : List ℕ) → length l / 16 ≡ 0 → before ≡ lastOfChain w before l
+pub lastOfChain-none : (w before l : List ℕ) → length l / 16 ≡ 0 → before ≡ lastOfChain w before l
 unfolding lastOfChain absorbed
-no-block w before l e = rw e
+lastOfChain-none w before l e = rw e
 
 -- CBC decryption by the equivalent inverse cipher is CBC decryption
 pub eqDecrypt-cbcDecrypt : (key w v iv l : List ℕ) → w ≡ keyExpansion key → InverseKeys 11 w v

@@ -10,6 +10,7 @@ use lib.ListN.{length, take, drop, drop-of-length-le, length-drop}
 use Rattle.lists.specs.Parts.{putAt}
 use Rattle.lists.specs.Bytes.{same}
 use Rattle.model.specs.Cipher.{Cipher}
+use Rattle.instructions.specs.Rules.{firstOf}
 use Rattle.instructions.specs.Refusals.{bufferFlaws}
 use Rattle.instructions.specs.Depot.{Sealed, depotFlaws, depotSign, depotSeal, depotOpen}
 use Rattle.lists.proofs.Copies.{rest-copied}
@@ -31,6 +32,20 @@ mac-copied line mac size sixteen =
     (drop-of-length-le (drop 48 line) {i = length mac} (omega (arith, length-drop 48 line)))
     ∙ ap (λ (r : List ℕ). take 48 line ++ r) (append-nil mac)
 
+-- the first refusal of a line and a MAC, whatever else may be refused
+module _ (a : ℕ) (line mac : List ℕ) (rest : List (Bool × ℕ)) where
+  pub flaw-address : (a % 64 ≡ 0 → ⊥) → firstOf (depotFlaws a line mac ++ rest) ≡ 106
+  unfolding depotFlaws
+  flaw-address h = rw (ne-eqb (a % 64) 0 h)
+
+  pub flaw-line : a % 64 ≡ 0 → (length line ≡ 64 → ⊥) → firstOf (depotFlaws a line mac ++ rest) ≡ 107
+  unfolding depotFlaws bufferFlaws
+  flaw-line h g = rw (eq-eqb (a % 64) 0 h, ne-eqb (length line) 64 g)
+
+  pub flaw-mac : a % 64 ≡ 0 → length line ≡ 64 → (length mac ≡ 16 → ⊥) → firstOf (depotFlaws a line mac ++ rest) ≡ 107
+  unfolding depotFlaws bufferFlaws
+  flaw-mac h g f = rw (eq-eqb (a % 64) 0 h, eq-eqb (length line) 64 g, ne-eqb (length mac) 16 f)
+
 module _ (c : Cipher) (key : List ℕ) (a : ℕ) (line : List ℕ) where
   pub sign-106 : (a % 64 ≡ 0 → ⊥) → gave 106 line [] ≡ depotSign c key a line
   unfolding depotSign
@@ -51,18 +66,10 @@ module _ (c : Cipher) (key : List ℕ) (a : ℕ) (line : List ℕ) where
 
   -- the sizes of both buffers, and the address, as the meaning tests them
   module _ (mac : List ℕ) where
-    pub seal-106 : (a % 64 ≡ 0 → ⊥) → gave 106 line mac ≡ depotSeal c key a line mac
-    unfolding depotSeal depotFlaws
-    seal-106 h = rw (ne-eqb (a % 64) 0 h)
-
-    pub seal-107 : a % 64 ≡ 0 → (length line ≡ 64 → ⊥) → gave 107 line mac ≡ depotSeal c key a line mac
+    pub seal-refused : {n : ℕ} → eqb n 0 ≡ false → firstOf (depotFlaws a line mac ++ []) ≡ n
+        → gave n line mac ≡ depotSeal c key a line mac
     unfolding depotSeal depotFlaws bufferFlaws
-    seal-107 h g = rw (eq-eqb (a % 64) 0 h, ne-eqb (length line) 64 g)
-
-    pub seal-107-mac : a % 64 ≡ 0 → length line ≡ 64 → (length mac ≡ 16 → ⊥)
-        → gave 107 line mac ≡ depotSeal c key a line mac
-    unfolding depotSeal depotFlaws bufferFlaws
-    seal-107-mac h g f = rw (eq-eqb (a % 64) 0 h, eq-eqb (length line) 64 g, ne-eqb (length mac) 16 f)
+    seal-refused some e = rw (e, some)
 
     pub seal-done : (line' made mac' : List ℕ) → a % 64 ≡ 0 → length line ≡ 64 → length mac ≡ 16
         → line' ≡ c .encipher key a line
@@ -72,18 +79,11 @@ module _ (c : Cipher) (key : List ℕ) (a : ℕ) (line : List ℕ) where
         ap₂ (gave 0) e (copy ∙ m ∙ ap (c .dataMac key a) e)
         ∙ rw (eq-eqb (a % 64) 0 h, eq-eqb (length line) 64 g, eq-eqb (length mac) 16 f)
 
-    pub open-106 : (a % 64 ≡ 0 → ⊥) → gave 106 line mac ≡ depotOpen c key a line mac
-    unfolding depotOpen depotFlaws
-    open-106 h = rw (ne-eqb (a % 64) 0 h)
-
-    pub open-107 : a % 64 ≡ 0 → (length line ≡ 64 → ⊥) → gave 107 line mac ≡ depotOpen c key a line mac
-    unfolding depotOpen depotFlaws bufferFlaws
-    open-107 h g = rw (eq-eqb (a % 64) 0 h, ne-eqb (length line) 64 g)
-
-    pub open-107-mac : a % 64 ≡ 0 → length line ≡ 64 → (length mac ≡ 16 → ⊥)
-        → gave 107 line mac ≡ depotOpen c key a line mac
-    unfolding depotOpen depotFlaws bufferFlaws
-    open-107-mac h g f = rw (eq-eqb (a % 64) 0 h, eq-eqb (length line) 64 g, ne-eqb (length mac) 16 f)
+    pub open-refused : {n : ℕ} → eqb n 0 ≡ false
+        → firstOf (depotFlaws a line mac ++ ((not (same (c .dataMac key a line) mac), 109) ∷ [])) ≡ n
+        → gave n line mac ≡ depotOpen c key a line mac
+    unfolding depotOpen
+    open-refused some e = rw (e, some)
 
     pub open-109 : (made : List ℕ) (r : Bool) → a % 64 ≡ 0 → length line ≡ 64 → length mac ≡ 16
         → made ≡ c .dataMac key a line

@@ -12,13 +12,14 @@ unfoldable pub row : ℕ → ℕ → ℕ → ℕ → ℕ → ℕ → ℕ → ℕ
 row m0 m1 m2 m3 a b c d = m0 • a ⊕ m1 • b ⊕ m2 • c ⊕ m3 • d
 
 -- four terms summed, the last one put first
-pub turn : (p q r s : ℕ) → p ⊕ q ⊕ r ⊕ s ≡ s ⊕ p ⊕ q ⊕ r
-turn p q r s =
+pub ⊕-turn : (p q r s : ℕ) → p ⊕ q ⊕ r ⊕ s ≡ s ⊕ p ⊕ q ⊕ r
+⊕-turn p q r s =
     ⊕-comm (p ⊕ q ⊕ r) s ∙ sym (⊕-assoc s (p ⊕ q) r) ∙ ap (λ (x : ℕ). x ⊕ r) (sym (⊕-assoc s p q))
 
 -- two sums of four terms, added term by term
-add-four : (p q r s p' q' r' s' : ℕ) → (p ⊕ q ⊕ r ⊕ s) ⊕ (p' ⊕ q' ⊕ r' ⊕ s') ≡ (p ⊕ p') ⊕ (q ⊕ q') ⊕ (r ⊕ r') ⊕ (s ⊕ s')
-add-four p q r s p' q' r' s' =
+⊕-add-four : (p q r s p' q' r' s' : ℕ)
+    → (p ⊕ q ⊕ r ⊕ s) ⊕ (p' ⊕ q' ⊕ r' ⊕ s') ≡ (p ⊕ p') ⊕ (q ⊕ q') ⊕ (r ⊕ r') ⊕ (s ⊕ s')
+⊕-add-four p q r s p' q' r' s' =
     ⊕-swap (p ⊕ q ⊕ r) s (p' ⊕ q' ⊕ r') s'
     ∙ ap (λ (x : ℕ). x ⊕ (s ⊕ s')) (⊕-swap (p ⊕ q) r (p' ⊕ q') r' ∙ ap (λ (x : ℕ). x ⊕ (r ⊕ r')) (⊕-swap p q p' q'))
 
@@ -28,7 +29,7 @@ pub row-⊕ : (m0 m1 m2 m3 a b c d a' b' c' d' : ℕ)
 unfolding row
 row-⊕ m0 m1 m2 m3 a b c d a' b' c' d' =
     ap₂ _⊕_ (ap₂ _⊕_ (ap₂ _⊕_ (•-⊕ m0 a a') (•-⊕ m1 b b')) (•-⊕ m2 c c')) (•-⊕ m3 d d')
-    ∙ sym (add-four (m0 • a) (m1 • b) (m2 • c) (m3 • d) (m0 • a') (m1 • b') (m2 • c') (m3 • d'))
+    ∙ sym (⊕-add-four (m0 • a) (m1 • b) (m2 • c) (m3 • d) (m0 • a') (m1 • b') (m2 • c') (m3 • d'))
 
 -- a row of sums of four is the sum of four rows
 row-four : (n0 n1 n2 n3 a b c d a' b' c' d' a'' b'' c'' d'' e f g h : ℕ)
@@ -49,16 +50,16 @@ pub record UndoRow (n0 n1 n2 n3 m0 m1 m2 m3 : ℕ) : Type 0 where
 
 module _ (n0 n1 n2 n3 m0 m1 m2 m3 : ℕ) (undo : UndoRow n0 n1 n2 n3 m0 m1 m2 m3) where
   -- the rows of the one matrix, each turned to begin with a, times the row of the other
-  split : (a b c d : ℕ)
+  row-split : (a b c d : ℕ)
       → row n0 n1 n2 n3 (row m0 m1 m2 m3 a b c d) (row m0 m1 m2 m3 b c d a) (row m0 m1 m2 m3 c d a b)
       (row m0 m1 m2 m3 d a b c)
       ≡ row n0 n1 n2 n3 (m0 • a) (m3 • a) (m2 • a) (m1 • a) ⊕ row n0 n1 n2 n3 (m1 • b) (m0 • b) (m3 • b) (m2 • b)
       ⊕ row n0 n1 n2 n3 (m2 • c) (m1 • c) (m0 • c) (m3 • c) ⊕ row n0 n1 n2 n3 (m3 • d) (m2 • d) (m1 • d) (m0 • d)
   unfolding row
-  split a b c d =
-      (λ i. row n0 n1 n2 n3 (row m0 m1 m2 m3 a b c d) (turn (m0 • b) (m1 • c) (m2 • d) (m3 • a) i)
-      ((turn (m0 • c) (m1 • d) (m2 • a) (m3 • b) ∙ turn (m3 • b) (m0 • c) (m1 • d) (m2 • a)) i)
-      (sym (turn (m1 • a) (m2 • b) (m3 • c) (m0 • d)) i))
+  row-split a b c d =
+      (λ i. row n0 n1 n2 n3 (row m0 m1 m2 m3 a b c d) (⊕-turn (m0 • b) (m1 • c) (m2 • d) (m3 • a) i)
+      ((⊕-turn (m0 • c) (m1 • d) (m2 • a) (m3 • b) ∙ ⊕-turn (m3 • b) (m0 • c) (m1 • d) (m2 • a)) i)
+      (sym (⊕-turn (m1 • a) (m2 • b) (m3 • c) (m0 • d)) i))
       ∙ row-four n0 n1 n2 n3 (m0 • a) (m3 • a) (m2 • a) (m1 • a) (m1 • b) (m0 • b) (m3 • b) (m2 • b)
       (m2 • c) (m1 • c) (m0 • c) (m3 • c) (m3 • d) (m2 • d) (m1 • d) (m0 • d)
 
@@ -66,7 +67,7 @@ module _ (n0 n1 n2 n3 m0 m1 m2 m3 : ℕ) (undo : UndoRow n0 n1 n2 n3 m0 m1 m2 m3
       → row n0 n1 n2 n3 (row m0 m1 m2 m3 a b c d) (row m0 m1 m2 m3 b c d a) (row m0 m1 m2 m3 c d a b)
       (row m0 m1 m2 m3 d a b c) ≡ a
   undo-row a b c d ha hb hc hd =
-      split a b c d
+      row-split a b c d
       ∙ ap₂ _⊕_ (ap₂ _⊕_ (ap₂ _⊕_ (undo .one a ha) (undo .zero1 b hb)) (undo .zero2 c hc)) (undo .zero3 d hd)
       ∙ ⊕-zero (a ⊕ 0 ⊕ 0) ∙ ⊕-zero (a ⊕ 0) ∙ ⊕-zero a
 

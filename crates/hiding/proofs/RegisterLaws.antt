@@ -19,7 +19,7 @@ use Rattle.aes_standard.specs.Cipher.{cipher}
 use Rattle.rounds.specs.declared.columns.Columns.{Columns}
 use Rattle.rounds.specs.Words.{fourWords, blockOf}
 use Rattle.cmac.proofs.Steps.{last-added}
-use Rattle.chain.proofs.ChainLaws.{take-put}
+use Rattle.chain.proofs.ChainLaws.{take-putAt}
 use Rattle.cmac.specs.Subkeys.{lastByte}
 use Rattle.sealing.specs.Lines.{lineKey}
 use Rattle.sealing.specs.Stream.{counted, streamFrom, stream}
@@ -48,7 +48,7 @@ text-more i r m a m' low high size e put before =
       is =
           ap₂ (λ (n : ℕ) (l : List ℕ). take n l ++ wordsBytes 8 (drop (i + 1) r)) next put8
           ∙ ap (λ (l : List ℕ). l ++ wordsBytes 8 (drop (i + 1) r))
-          (take-put (i * 8 - 7) 8 a m eight (omega (arith, before .size)))
+          (take-putAt (i * 8 - 7) 8 a m eight (omega (arith, before .size)))
           ∙ append-assoc (take (i * 8 - 7) m) a (wordsBytes 8 (drop (i + 1) r))
           ∙ ap (λ (l : List ℕ). take (i * 8 - 7) m ++ l)
           (ap (λ (l : List ℕ). l ++ wordsBytes 8 (drop (i + 1) r)) e
@@ -82,7 +82,7 @@ stream-more j w h s b c s' lt count run sixteen put before =
       is =
           ap₂ (λ (n : ℕ) (l : List ℕ). take n l ++ streamFrom w h (16 - (j + 1)) (j + 1)) next put16
           ∙ ap (λ (l : List ℕ). l ++ streamFrom w h (16 - (j + 1)) (j + 1))
-          (take-put (j * 16) 16 b s sixteen (omega (arith, before .size)))
+          (take-putAt (j * 16) 16 b s sixteen (omega (arith, before .size)))
           ∙ append-assoc (take (j * 16) s) b (streamFrom w h (16 - (j + 1)) (j + 1))
           ∙ ap (λ (l : List ℕ). take (j * 16) s ++ (l ++ streamFrom w h (16 - (j + 1)) (j + 1)))
           (run ∙ ap (cipher w) count)

@@ -7,7 +7,7 @@ use lib.Bits.{bitXor}
 use Rattle.field.specs.Field.{_⊕_, _•_}
 use Rattle.field.specs.Mixing.{word, share}
 use Rattle.field.proofs.Product.{•-lt}
-use Rattle.field.proofs.MixingLaws.{row, turn}
+use Rattle.field.proofs.MixingLaws.{row, ⊕-turn}
 use Rattle.rounds.specs.declared.columns.Columns.{Columns}
 use Rattle.aes_standard.specs.State.{at, state, byteOf, shiftRows, mixWith, addRoundKey}
 use Rattle.rounds.specs.Ways.{Way, Shares, Puts, Round, Last, movedBy, roundBy, lastBy}
@@ -83,15 +83,17 @@ module _ (y : Way) (t : List ℕ) (shares : Shares y t) where
         byte0 = sum .byte0 ∙ (λ i. p .byte2 i ⊕ q .byte1 i ⊕ y .m2 • f (byteOf c 2) ⊕ v .byte3 i);
         byte1 =
             sum .byte1 ∙ (λ i. p .byte3 i ⊕ q .byte2 i ⊕ y .m1 • f (byteOf c 2) ⊕ v .byte0 i)
-            ∙ sym (turn (y .m0 • f (byteOf b 1)) (y .m1 • f (byteOf c 2)) (y .m2 • f (byteOf d 3))
+            ∙ sym (⊕-turn (y .m0 • f (byteOf b 1)) (y .m1 • f (byteOf c 2)) (y .m2 • f (byteOf d 3))
             (y .m3 • f (byteOf a 0)));
         byte2 =
             sum .byte2 ∙ (λ i. p .byte0 i ⊕ q .byte3 i ⊕ y .m0 • f (byteOf c 2) ⊕ v .byte1 i)
-            ∙ turn (y .m2 • f (byteOf a 0)) (y .m3 • f (byteOf b 1)) (y .m0 • f (byteOf c 2)) (y .m1 • f (byteOf d 3))
-            ∙ turn (y .m1 • f (byteOf d 3)) (y .m2 • f (byteOf a 0)) (y .m3 • f (byteOf b 1)) (y .m0 • f (byteOf c 2));
+            ∙ ⊕-turn (y .m2 • f (byteOf a 0)) (y .m3 • f (byteOf b 1)) (y .m0 • f (byteOf c 2)) (y .m1 • f (byteOf d 3))
+            ∙ ⊕-turn (y .m1 • f (byteOf d 3)) (y .m2 • f (byteOf a 0)) (y .m3 • f (byteOf b 1))
+            (y .m0 • f (byteOf c 2));
         byte3 =
             sum .byte3 ∙ (λ i. p .byte1 i ⊕ q .byte0 i ⊕ y .m3 • f (byteOf c 2) ⊕ v .byte2 i)
-            ∙ turn (y .m1 • f (byteOf a 0)) (y .m2 • f (byteOf b 1)) (y .m3 • f (byteOf c 2)) (y .m0 • f (byteOf d 3));
+            ∙ ⊕-turn (y .m1 • f (byteOf a 0)) (y .m2 • f (byteOf b 1)) (y .m3 • f (byteOf c 2))
+            (y .m0 • f (byteOf d 3));
       }
 
 -- a full round of the code

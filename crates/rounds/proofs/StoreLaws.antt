@@ -20,21 +20,21 @@ tabulate-same (suc n) f g h =
     (tabulate-same n (λ i. f (suc i)) (λ i. g (suc i)) (λ i lt. h (suc i) (omega arith)))
 
 -- the bytes of a buffer from place k on are a part of it
-pub part-tabulated : (n : ℕ) (l : List ℕ) (k : ℕ) → k + n ≤ length l → tabulate n (λ i. at l (k + i)) ≡ partAt k n l
+pub tabulate-partAt : (n : ℕ) (l : List ℕ) (k : ℕ) → k + n ≤ length l → tabulate n (λ i. at l (k + i)) ≡ partAt k n l
 unfolding partAt
-part-tabulated n l k h =
+tabulate-partAt n l k h =
     tabulate-same n (λ i. at l (k + i)) (at (partAt k n l))
     (λ i lt. sym (getD-take n (drop k l) i 0 lt ∙ getD-drop k l i 0))
     ∙ sym (tabulated n (partAt k n l) (length-part k n l h))
 
 -- sixteen of them
-pub bytes-part : (l : List ℕ) (k : ℕ) → k + 16 ≤ length l → state (λ i. at l (k + i)) ≡ partAt k 16 l
-bytes-part = part-tabulated 16
+pub state-partAt : (l : List ℕ) (k : ℕ) → k + 16 ≤ length l → state (λ i. at l (k + i)) ≡ partAt k 16 l
+state-partAt = tabulate-partAt 16
 
 -- sixteen stores in a row replace a part
-pub sets-put : (l : List ℕ) (k : ℕ) (vs : List ℕ) → k + length vs ≤ length l → sets l k vs ≡ putAt k (length vs) vs l
+pub sets-putAt : (l : List ℕ) (k : ℕ) (vs : List ℕ) → k + length vs ≤ length l → sets l k vs ≡ putAt k (length vs) vs l
 unfolding putAt
-sets-put l k vs h =
+sets-putAt l k vs h =
     sets-eq vs l k h ∙ append-assoc (take k l) vs (drop (k + length vs) l)
     ∙ ap (λ (r : List ℕ). take k l ++ (vs ++ r)) (sym (drop-drop (length vs) k l))
 
@@ -60,19 +60,19 @@ word-more xs l r z k x p q =
     ∙ ap (λ (m : List ℕ). sets m (k + length xs) (wordBytes x)) p ∙ sets-more xs l k (wordBytes x)
 
 -- a list that is replaced whole
-pub put-all : (n : ℕ) (x l : List ℕ) → length l ≡ n → putAt 0 n x l ≡ x
+pub putAt-all : (n : ℕ) (x l : List ℕ) → length l ≡ n → putAt 0 n x l ≡ x
 unfolding putAt
-put-all n x l e = ap (λ (r : List ℕ). x ++ r) (ap (λ (k : ℕ). drop k l) (sym e) ∙ drop-length l) ∙ append-nil x
+putAt-all n x l e = ap (λ (r : List ℕ). x ++ r) (ap (λ (k : ℕ). drop k l) (sym e) ∙ drop-length l) ∙ append-nil x
 
 -- the code's four words, laid down one after the other, replace a part
-pub stored : (l p q r z : List ℕ) (k a b c d : ℕ) → k + 16 ≤ length l
+pub fourWords-stored : (l p q r z : List ℕ) (k a b c d : ℕ) → k + 16 ≤ length l
     → p ≡ fourSet l k (byteOf a 0) (byteOf a 1) (byteOf a 2) (byteOf a 3)
     → q ≡ fourSet p (k + 4) (byteOf b 0) (byteOf b 1) (byteOf b 2) (byteOf b 3)
     → r ≡ fourSet q (k + 8) (byteOf c 0) (byteOf c 1) (byteOf c 2) (byteOf c 3)
     → z ≡ fourSet r (k + 12) (byteOf d 0) (byteOf d 1) (byteOf d 2) (byteOf d 3)
     → z ≡ putAt k 16 (fourWords a b c d) l
-stored l p q r z k a b c d h e f g i =
+fourWords-stored l p q r z k a b c d h e f g i =
     word-more (wordBytes a ++ wordBytes b ++ wordBytes c) l r z k d
     (word-more (wordBytes a ++ wordBytes b) l q r k c
     (word-more (wordBytes a) l p q k b (e ∙ four-sets l k (byteOf a 0) (byteOf a 1) (byteOf a 2) (byteOf a 3)) f) g) i
-    ∙ sets-put l k (fourWords a b c d) h
+    ∙ sets-putAt l k (fourWords a b c d) h

@@ -34,11 +34,11 @@ pub shares-back : (t : List ℕ) → Table 256 unmixedEntry t → Shares back t
 unfolding unmixedEntry
 shares-back t h = record { entry = h .entry; byte = invSub-undone .byte }
 
-small : (n x : ℕ) → n < 256 → x ≡ n → x % 256 ≡ n
-small n x lt e = omega arith
+mod-small : (n x : ℕ) → n < 256 → x ≡ n → x % 256 ≡ n
+mod-small n x lt e = omega arith
 
 pub puts-back : (u : List ℕ) → Table 256 invSubByte u → Puts back u
-puts-back u h = record { entry = λ k lt. small (invSubByte k) (at u k) (invSub-undone .byte k lt) (h .entry k lt) }
+puts-back u h = record { entry = λ k lt. mod-small (invSubByte k) (at u k) (invSub-undone .byte k lt) (h .entry k lt) }
 
 -- the way there is the cipher
 rounds-there : (w : List ℕ) (n : ℕ) (s : List ℕ) → roundsBy there w n s ≡ rounds w n s

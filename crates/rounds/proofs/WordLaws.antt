@@ -21,21 +21,21 @@ bytes-word w h =
     let e3 : w / 256 * 256 + w % 256 ≡ w = omega arith in
     omega arith
 
--- the two halves of a word, from its bytes
-pub halves : (w : ℕ) → w < 2 ^ 32
+-- the two word-halves of a word, from its bytes
+pub word-halves : (w : ℕ) → w < 2 ^ 32
     → (w / 65536 ≡ w / 16777216 % 256 * 256 + w / 65536 % 256) × (w % 65536 ≡ w / 256 % 256 * 256 + w % 256)
-halves w h = (omega (arith, div-div-eq-div-mul w 65536 256), omega (arith, div-div-eq-div-mul w 256 256))
+word-halves w h = (omega (arith, div-div-eq-div-mul w 65536 256), omega (arith, div-div-eq-div-mul w 256 256))
 
-regrouped : (a b c d : ℕ) → (a * 256 + b) * 65536 + (c * 256 + d) ≡ word a b c d
+word-of-halves : (a b c d : ℕ) → (a * 256 + b) * 65536 + (c * 256 + d) ≡ word a b c d
 unfolding word
-regrouped a b c d = omega arith
+word-of-halves a b c d = omega arith
 
--- the two halves of a word change places
-pub turned-half : (w : ℕ) → w < 2 ^ 32 → w % 65536 * 65536 + w / 65536 ≡ turned w 2
+-- the two word-halves of a word change places
+pub turned-two : (w : ℕ) → w < 2 ^ 32 → w % 65536 * 65536 + w / 65536 ≡ turned w 2
 unfolding turned byteOf word
-turned-half w h =
-    ap₂ (λ (x y : ℕ). x * 65536 + y) (halves w h .1) (halves w h .0)
-    ∙ regrouped (w / 256 % 256) (w % 256) (w / 16777216 % 256) (w / 65536 % 256)
+turned-two w h =
+    ap₂ (λ (x y : ℕ). x * 65536 + y) (word-halves w h .1) (word-halves w h .0)
+    ∙ word-of-halves (w / 256 % 256) (w % 256) (w / 16777216 % 256) (w / 65536 % 256)
     ∙ ap (λ (x : ℕ). word (w / 256 % 256) x (w / 16777216 % 256) (w / 65536 % 256)) (byteOf-last w)
 
 pub word-bytes : (a b c d : ℕ) → a < 256 → b < 256 → c < 256 → d < 256 → Bytes (word a b c d) a b c d
@@ -87,9 +87,9 @@ four-bytes p q r s i =
     ∷ r .byte0 i ∷ r .byte1 i ∷ r .byte2 i ∷ r .byte3 i ∷ s .byte0 i ∷ s .byte1 i ∷ s .byte2 i ∷ s .byte3 i ∷ []
 
 -- the bytes of a word that stands at place k + j, by places counted from k
-placed : (l : List ℕ) (k j w : ℕ) → WordAt l (k + j) w
+wordAt-bytes : (l : List ℕ) (k j w : ℕ) → WordAt l (k + j) w
     → Bytes w (at l (k + j)) (at l (k + (j + 1))) (at l (k + (j + 2))) (at l (k + (j + 3)))
-placed l k j w h =
+wordAt-bytes l k j w h =
     record {
       byte0 = h .byte0;
       byte1 = h .byte1 ∙ ap (at l) (add-assoc k j 1);
@@ -109,4 +109,4 @@ loaded-at l k a b c d e f g h =
       byte2 = e .byte2;
       byte3 = e .byte3;
     })
-    (placed l k 4 b f) (placed l k 8 c g) (placed l k 12 d h)
+    (wordAt-bytes l k 4 b f) (wordAt-bytes l k 8 c g) (wordAt-bytes l k 12 d h)

@@ -24,29 +24,30 @@ use Rattle.aes_standard.proofs.WordBytes.{byteOf-lt}
 use Rattle.rounds.proofs.RoundLaws.{shared-bytes, picked-bytes}
 
 -- an entry of the S-box at a byte of k, undone
-undone : (s : List ℕ) → Table 256 subByte s → (k r : ℕ) → invSubByte (at s (byteOf k r)) ≡ byteOf k r
-undone s h k r = ap invSubByte (h .entry (byteOf k r) (byteOf-lt k r)) ∙ sub-undone .undone (byteOf k r) (byteOf-lt k r)
+invSubByte-entry : (s : List ℕ) → Table 256 subByte s → (k r : ℕ) → invSubByte (at s (byteOf k r)) ≡ byteOf k r
+invSubByte-entry s h k r = ap invSubByte (h .entry (byteOf k r) (byteOf-lt k r))
+    ∙ sub-undone .undone (byteOf k r) (byteOf-lt k r)
 
-entry-lt : (s : List ℕ) → Table 256 subByte s → (k : ℕ) → k < 256 → at s k < 256
-entry-lt s h k lt = rw (h .entry k lt) (sub-undone .byte k lt)
+sbox-entry-lt : (s : List ℕ) → Table 256 subByte s → (k : ℕ) → k < 256 → at s k < 256
+sbox-entry-lt s h k lt = rw (h .entry k lt) (sub-undone .byte k lt)
 
 -- the code's word of an inverse round key
 pub unmixed-key : (s t : List ℕ) (k x v : ℕ) → Table 256 subByte s → Shares back t
     → x ≡ substitutedWord s k k k k ⊕ 0 → v ≡ sharedWord t x x x x ⊕ 0 → Unmixed k v
 unfolding invMixColumns mixWith row
 unmixed-key s t k x v hs ht e f =
-    let bs = picked-bytes (λ x. x) s k k k k (entry-lt s hs) in
+    let bs = picked-bytes (λ x. x) s k k k k (sbox-entry-lt s hs) in
     let bt = shared-bytes back t ht x x x x in
     let ex : x ≡ substitutedWord s k k k k = e ∙ ⊕-zero (substitutedWord s k k k k) in
     let ev : v ≡ sharedWord t x x x x = f ∙ ⊕-zero (sharedWord t x x x x) in
     let q0 : invSubByte (byteOf x 0) ≡ byteOf k 0 = ap (λ (z : ℕ). invSubByte (byteOf z 0)) ex
-    ∙ ap invSubByte (bs .byte0) ∙ undone s hs k 0 in
+    ∙ ap invSubByte (bs .byte0) ∙ invSubByte-entry s hs k 0 in
     let q1 : invSubByte (byteOf x 1) ≡ byteOf k 1 = ap (λ (z : ℕ). invSubByte (byteOf z 1)) ex
-    ∙ ap invSubByte (bs .byte1) ∙ undone s hs k 1 in
+    ∙ ap invSubByte (bs .byte1) ∙ invSubByte-entry s hs k 1 in
     let q2 : invSubByte (byteOf x 2) ≡ byteOf k 2 = ap (λ (z : ℕ). invSubByte (byteOf z 2)) ex
-    ∙ ap invSubByte (bs .byte2) ∙ undone s hs k 2 in
+    ∙ ap invSubByte (bs .byte2) ∙ invSubByte-entry s hs k 2 in
     let q3 : invSubByte (byteOf x 3) ≡ byteOf k 3 = ap (λ (z : ℕ). invSubByte (byteOf z 3)) ex
-    ∙ ap invSubByte (bs .byte3) ∙ undone s hs k 3 in
+    ∙ ap invSubByte (bs .byte3) ∙ invSubByte-entry s hs k 3 in
     record {
       byte0 = ap (λ (z : ℕ). byteOf z 0) ev ∙ bt .byte0 ∙ (λ i. row 14 11 13 9 (q0 i) (q1 i) (q2 i) (q3 i));
       byte1 = ap (λ (z : ℕ). byteOf z 1) ev ∙ bt .byte1 ∙ (λ i. row 14 11 13 9 (q1 i) (q2 i) (q3 i) (q0 i));
@@ -87,9 +88,9 @@ pub keys-none : (w v : List ℕ) → InverseKeys 0 w v
 keys-none w v = record { key = λ r j lt h. absurd (omega arith) }
 
 -- what stands in a list after four words were laid down from place k on
-four-same : (v : List ℕ) (k a b c d : ℕ) → k + 4 ≤ length v → (P : ℕ → ℕ → Type 0) → P 0 a → P 1 b → P 2 c → P 3 d
+at-fourSet : (v : List ℕ) (k a b c d : ℕ) → k + 4 ≤ length v → (P : ℕ → ℕ → Type 0) → P 0 a → P 1 b → P 2 c → P 3 d
     → (j : ℕ) → j < 4 → P j (at (fourSet v k a b c d) (k + j))
-four-same v k a b c d fits P p q r s zero lt =
+at-fourSet v k a b c d fits P p q r s zero lt =
     rw (
       add-zero k,
       getD-set-other (set (set (set v k a) (k + 1) b) (k + 2) c) (k + 3) k d 0 (omega arith),
@@ -97,23 +98,23 @@ four-same v k a b c d fits P p q r s zero lt =
       getD-set-other (set v k a) (k + 1) k b 0 (omega arith),
       getD-set-same v k a 0 (omega arith),
     ) p
-four-same v k a b c d fits P p q r s (suc zero) lt =
+at-fourSet v k a b c d fits P p q r s (suc zero) lt =
     rw (
       getD-set-other (set (set (set v k a) (k + 1) b) (k + 2) c) (k + 3) (k + 1) d 0 (omega arith),
       getD-set-other (set (set v k a) (k + 1) b) (k + 2) (k + 1) c 0 (omega arith),
       getD-set-same (set v k a) (k + 1) b 0 (simp length-set (omega arith)),
     ) q
-four-same v k a b c d fits P p q r s (suc (suc zero)) lt =
+at-fourSet v k a b c d fits P p q r s (suc (suc zero)) lt =
     rw (
       getD-set-other (set (set (set v k a) (k + 1) b) (k + 2) c) (k + 3) (k + 2) d 0 (omega arith),
       getD-set-same (set (set v k a) (k + 1) b) (k + 2) c 0 (simp length-set (omega arith)),
     ) r
-four-same v k a b c d fits P p q r s (suc (suc (suc zero))) lt =
+at-fourSet v k a b c d fits P p q r s (suc (suc (suc zero))) lt =
     rw (getD-set-same (set (set (set v k a) (k + 1) b) (k + 2) c) (k + 3) d 0 (simp length-set (omega arith))) s
-four-same v k a b c d fits P p q r s (suc (suc (suc (suc j)))) lt = absurd (omega arith)
+at-fourSet v k a b c d fits P p q r s (suc (suc (suc (suc j)))) lt = absurd (omega arith)
 
-four-other : (v : List ℕ) (k a b c d i : ℕ) → i < k → at (fourSet v k a b c d) i ≡ at v i
-four-other v k a b c d i lt =
+at-fourSet-other : (v : List ℕ) (k a b c d i : ℕ) → i < k → at (fourSet v k a b c d) i ≡ at v i
+at-fourSet-other v k a b c d i lt =
     getD-set-other (set (set (set v k a) (k + 1) b) (k + 2) c) (k + 3) i d 0 (omega arith)
     ∙ getD-set-other (set (set v k a) (k + 1) b) (k + 2) i c 0 (omega arith)
     ∙ getD-set-other (set v k a) (k + 1) i b 0 (omega arith) ∙ getD-set-other v k i a 0 (omega arith)
@@ -126,7 +127,7 @@ keys-more w v v' n y size lt h k e =
     rw e (record {
       key = λ r j below place.
           ⊎-elim (λ (same : r ≡ n). rw same (new j place))
-          (λ (l : r < n). rw (four-other v (n * 4) (y .a) (y .b) (y .c) (y .d) (r * 4 + j) (omega arith))
+          (λ (l : r < n). rw (at-fourSet-other v (n * 4) (y .a) (y .b) (y .c) (y .d) (r * 4 + j) (omega arith))
           (h .key r j l place)) (eq-or-lt-of-le (omega arith));
     })
   where
@@ -134,7 +135,7 @@ keys-more w v v' n y size lt h k e =
         → Taken (10 - n) (at w ((10 - n) * 4 + (4 - j) % 4))
         (at (fourSet v (n * 4) (y .a) (y .b) (y .c) (y .d)) (n * 4 + j))
     new =
-        four-same v (n * 4) (y .a) (y .b) (y .c) (y .d) (omega arith)
+        at-fourSet v (n * 4) (y .a) (y .b) (y .c) (y .d) (omega arith)
         (λ j x. Taken (10 - n) (at w ((10 - n) * 4 + (4 - j) % 4)) x)
         (k .first) (k .second) (k .third) (k .fourth)
 
@@ -153,9 +154,9 @@ record Column (p q r s k v : ℕ) : Type 0 where
   byte3 : row 14 11 13 9 s p q r ⊕ byteOf v 3 ≡ row 14 11 13 9 (s ⊕ byteOf k 3) (p ⊕ byteOf k 0) (q ⊕ byteOf k 1)
       (r ⊕ byteOf k 2)
 
-column : (p q r s k v : ℕ) → Unmixed k v → Column p q r s k v
+unmixed-column : (p q r s k v : ℕ) → Unmixed k v → Column p q r s k v
 unfolding invMixColumns mixWith row
-column p q r s k v u =
+unmixed-column p q r s k v u =
     let k0 = byteOf k 0 in
     let k1 = byteOf k 1 in
     let k2 = byteOf k 2 in
@@ -168,44 +169,49 @@ column p q r s k v u =
     }
 
 -- the same of a whole round key, on changed columns
-unmixed-over : (w v : List ℕ) (r q : ℕ) (s : List ℕ)
+addRoundKey-unmixed : (w v : List ℕ) (r q : ℕ) (s : List ℕ)
     → ((j : ℕ) → j < 4 → Unmixed (at w (q * 4 + (4 - j) % 4)) (at v (r * 4 + j)))
     → addRoundKey v r (flipped (invMixColumns s)) ≡ flipped (invMixColumns (addRoundKey w q s))
 unfolding addRoundKey flipped invMixColumns mixWith row
-unmixed-over w v r q s h =
-    let a = column (at s 0) (at s 1) (at s 2) (at s 3) (at w (q * 4 + 0)) (at v (r * 4 + 0)) (h 0 (omega arith)) in
-    let b = column (at s 12) (at s 13) (at s 14) (at s 15) (at w (q * 4 + 3)) (at v (r * 4 + 1)) (h 1 (omega arith)) in
-    let c = column (at s 8) (at s 9) (at s 10) (at s 11) (at w (q * 4 + 2)) (at v (r * 4 + 2)) (h 2 (omega arith)) in
-    let d = column (at s 4) (at s 5) (at s 6) (at s 7) (at w (q * 4 + 1)) (at v (r * 4 + 3)) (h 3 (omega arith)) in
+addRoundKey-unmixed w v r q s h =
+    let a = unmixed-column (at s 0) (at s 1) (at s 2) (at s 3) (at w (q * 4 + 0)) (at v (r * 4 + 0))
+    (h 0 (omega arith)) in
+    let b = unmixed-column (at s 12) (at s 13) (at s 14) (at s 15) (at w (q * 4 + 3)) (at v (r * 4 + 1))
+    (h 1 (omega arith)) in
+    let c = unmixed-column (at s 8) (at s 9) (at s 10) (at s 11) (at w (q * 4 + 2)) (at v (r * 4 + 2))
+    (h 2 (omega arith)) in
+    let d = unmixed-column (at s 4) (at s 5) (at s 6) (at s 7) (at w (q * 4 + 1)) (at v (r * 4 + 3))
+    (h 3 (omega arith)) in
     λ i. a .byte0 i ∷ a .byte1 i ∷ a .byte2 i ∷ a .byte3 i ∷ b .byte0 i ∷ b .byte1 i ∷ b .byte2 i ∷ b .byte3 i
     ∷ c .byte0 i ∷ c .byte1 i ∷ c .byte2 i ∷ c .byte3 i ∷ d .byte0 i ∷ d .byte1 i ∷ d .byte2 i ∷ d .byte3 i ∷ []
 
 -- a round key whose words are the schedule's own, on changed columns
-same-key : (w v : List ℕ) (r q : ℕ) (s : List ℕ) → ((j : ℕ) → j < 4 → at v (r * 4 + j) ≡ at w (q * 4 + (4 - j) % 4))
+addRoundKey-flipped : (w v : List ℕ) (r q : ℕ) (s : List ℕ)
+    → ((j : ℕ) → j < 4 → at v (r * 4 + j) ≡ at w (q * 4 + (4 - j) % 4))
     → addRoundKey v r (flipped s) ≡ flipped (addRoundKey w q s)
 unfolding addRoundKey flipped
-same-key w v r q s h = rw (h 0 (omega arith), h 1 (omega arith), h 2 (omega arith), h 3 (omega arith))
+addRoundKey-flipped w v r q s h = rw (h 0 (omega arith), h 1 (omega arith), h 2 (omega arith), h 3 (omega arith))
 
 -- on changed columns, rows that move to the left move to the right
-moved-back : (s : List ℕ) → movedBy back (flipped s) ≡ flipped (invSubBytes (invShiftRows s))
+movedBy-back : (s : List ℕ) → movedBy back (flipped s) ≡ flipped (invSubBytes (invShiftRows s))
 unfolding movedBy shiftRows flipped invSubBytes invShiftRows
-moved-back s = refl
+movedBy-back s = refl
 
-mixed-back : (s : List ℕ) → mixWith 14 11 13 9 (flipped s) ≡ flipped (invMixColumns s)
+mixWith-back : (s : List ℕ) → mixWith 14 11 13 9 (flipped s) ≡ flipped (invMixColumns s)
 unfolding mixWith flipped invMixColumns
-mixed-back s = refl
+mixWith-back s = refl
 
-twice : (w : List ℕ) (r : ℕ) (s : List ℕ) → flipped (flipped (addRoundKey w r s)) ≡ addRoundKey w r s
+flipped-flipped : (w : List ℕ) (r : ℕ) (s : List ℕ) → flipped (flipped (addRoundKey w r s)) ≡ addRoundKey w r s
 unfolding flipped addRoundKey
-twice w r s = refl
+flipped-flipped w r s = refl
 
 module _ (w v : List ℕ) (keys : InverseKeys 11 w v) where
   round-back : (n : ℕ) (s : List ℕ) → n < 9 → roundBy back v (suc n) (flipped s) ≡ flipped (invRound w (9 - n) s)
   unfolding roundBy invRound
   round-back n s h =
-      ap (λ (z : List ℕ). addRoundKey v (suc n) (mixWith 14 11 13 9 z)) (moved-back s)
-      ∙ ap (addRoundKey v (suc n)) (mixed-back (invSubBytes (invShiftRows s)))
-      ∙ unmixed-over w v (suc n) (9 - n) (invSubBytes (invShiftRows s))
+      ap (λ (z : List ℕ). addRoundKey v (suc n) (mixWith 14 11 13 9 z)) (movedBy-back s)
+      ∙ ap (addRoundKey v (suc n)) (mixWith-back (invSubBytes (invShiftRows s)))
+      ∙ addRoundKey-unmixed w v (suc n) (9 - n) (invSubBytes (invShiftRows s))
       (λ j lt. taken j lt .inner (omega arith) (omega arith))
     where
       taken : (j : ℕ) → j < 4 → Taken (9 - n) (at w ((9 - n) * 4 + (4 - j) % 4)) (at v (suc n * 4 + j))
@@ -225,8 +231,8 @@ module _ (w v : List ℕ) (keys : InverseKeys 11 w v) where
       let x = invRounds w 9 (addRoundKey w 10 s) in
       let z = invSubBytes (invShiftRows x) in
       ap (λ (l : List ℕ). flipped (addRoundKey v 10 (movedBy back l)))
-      (ap (roundsBy back v 9) (same-key w v 0 10 s (λ j h. keys .key 0 j (omega arith) h .last refl))
+      (ap (roundsBy back v 9) (addRoundKey-flipped w v 0 10 s (λ j h. keys .key 0 j (omega arith) h .last refl))
       ∙ rounds-back 9 (addRoundKey w 10 s) (omega arith))
-      ∙ ap (λ (l : List ℕ). flipped (addRoundKey v 10 l)) (moved-back x)
-      ∙ ap flipped (same-key w v 10 0 z (λ j h. keys .key 10 j (omega arith) h .first refl))
-      ∙ twice w 0 z
+      ∙ ap (λ (l : List ℕ). flipped (addRoundKey v 10 l)) (movedBy-back x)
+      ∙ ap flipped (addRoundKey-flipped w v 10 0 z (λ j h. keys .key 10 j (omega arith) h .first refl))
+      ∙ flipped-flipped w 0 z

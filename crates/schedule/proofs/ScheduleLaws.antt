@@ -34,35 +34,35 @@ pub fourth-part : (t : List ℕ) (d v k s : ℕ) → Table 256 subByte t → v �
 fourth-part t d v k s h e p = p ∙ ap (λ (x : ℕ). x ⊕ k) (sub-word t v h ∙ ap subWord (e ∙ turned-rot d))
 
 -- a fourth word of the schedule, and a word that is none
-fourth : (n i a b c d e : ℕ) → i % 4 ≡ 0 → e ≡ a ⊕ (subWord (rotWord d) ⊕ rcon (i / 4))
+wordsFrom-fourth : (n i a b c d e : ℕ) → i % 4 ≡ 0 → e ≡ a ⊕ (subWord (rotWord d) ⊕ rcon (i / 4))
     → wordsFrom (suc n) i a b c d ≡ e ∷ wordsFrom n (suc i) b c d e
 unfolding wordsFrom
-fourth n i a b c d e h p = rw (p, eq-eqb (i % 4) 0 h)
+wordsFrom-fourth n i a b c d e h p = rw (p, eq-eqb (i % 4) 0 h)
 
-other : (n i a b c d e : ℕ) → (i % 4 ≡ 0 → ⊥) → e ≡ a ⊕ d
+wordsFrom-other : (n i a b c d e : ℕ) → (i % 4 ≡ 0 → ⊥) → e ≡ a ⊕ d
     → wordsFrom (suc n) i a b c d ≡ e ∷ wordsFrom n (suc i) b c d e
 unfolding wordsFrom
-other n i a b c d e h p = rw (p, ne-eqb (i % 4) 0 h)
+wordsFrom-other n i a b c d e h p = rw (p, ne-eqb (i % 4) 0 h)
 
 -- the next four words of the schedule, from word 4 r + 4 on
 words-four : (n r : ℕ) (x y : Columns) → NextKey x (rcon (r + 1)) y
     → wordsFrom (suc (suc (suc (suc n)))) (r * 4 + 4) (x .a) (x .b) (x .c) (x .d)
     ≡ y .a ∷ y .b ∷ y .c ∷ y .d ∷ wordsFrom n (r * 4 + 8) (y .a) (y .b) (y .c) (y .d)
 words-four n r x y h =
-    fourth (suc (suc (suc n))) (r * 4 + 4) (x .a) (x .b) (x .c) (x .d) (y .a) (omega arith)
+    wordsFrom-fourth (suc (suc (suc n))) (r * 4 + 4) (x .a) (x .b) (x .c) (x .d) (y .a) (omega arith)
     (h .first ∙ ap (λ (k : ℕ). x .a ⊕ (subWord (rotWord (x .d)) ⊕ rcon k)) (omega arith))
     ∙ ap (λ (l : List ℕ). y .a ∷ l)
-    (other (suc (suc n)) (suc (r * 4 + 4)) (x .b) (x .c) (x .d) (y .a) (y .b) (omega arith) (h .second)
+    (wordsFrom-other (suc (suc n)) (suc (r * 4 + 4)) (x .b) (x .c) (x .d) (y .a) (y .b) (omega arith) (h .second)
     ∙ ap (λ (l : List ℕ). y .b ∷ l)
-    (other (suc n) (suc (suc (r * 4 + 4))) (x .c) (x .d) (y .a) (y .b) (y .c) (omega arith) (h .third)
+    (wordsFrom-other (suc n) (suc (suc (r * 4 + 4))) (x .c) (x .d) (y .a) (y .b) (y .c) (omega arith) (h .third)
     ∙ ap (λ (l : List ℕ). y .c ∷ l)
-    (other n (suc (suc (suc (r * 4 + 4)))) (x .d) (y .a) (y .b) (y .c) (y .d) (omega arith) (h .fourth)
+    (wordsFrom-other n (suc (suc (suc (r * 4 + 4)))) (x .d) (y .a) (y .b) (y .c) (y .d) (omega arith) (h .fourth)
     ∙ ap (λ (i : ℕ). y .d ∷ wordsFrom n i (y .a) (y .b) (y .c) (y .d)) (omega arith))))
 
 -- four words laid down behind what was laid before
-laid : (w : List ℕ) (k a b c d : ℕ) → length w ≡ 44 → k + 4 ≤ 44
+take-fourSet : (w : List ℕ) (k a b c d : ℕ) → length w ≡ 44 → k + 4 ≤ 44
     → take (k + 4) (fourSet w k a b c d) ≡ take k w ++ (a ∷ b ∷ c ∷ d ∷ [])
-laid w k a b c d len fits =
+take-fourSet w k a b c d len fits =
     let vs : List ℕ = a ∷ b ∷ c ∷ d ∷ [] in
     ap (take (k + 4)) (rw (add-one, add-two, add-three) (sets-eq vs w k (omega arith)))
     ∙ take-at (take k w ++ vs) (drop (k + 4) w) (k + 4)
@@ -82,7 +82,7 @@ laid-first key w x len h =
       size = simp length-set len;
       rest =
           ap (λ (l : List ℕ). l ++ wordsFrom 40 4 (x .a) (x .b) (x .c) (x .d))
-          (laid w 0 (x .a) (x .b) (x .c) (x .d) len (omega arith))
+          (take-fourSet w 0 (x .a) (x .b) (x .c) (x .d) len (omega arith))
           ∙ rw (h .first, h .second, h .third, h .fourth);
     }
 
@@ -98,7 +98,7 @@ laid-next key w r x y lt h before =
       size = simp length-set (before .size);
       rest =
           ap₂ (λ (l m : List ℕ). l ++ m)
-          (laid w ((r + 1) * 4) (y .a) (y .b) (y .c) (y .d) (before .size) (omega arith))
+          (take-fourSet w ((r + 1) * 4) (y .a) (y .b) (y .c) (y .d) (before .size) (omega arith))
           (ap₂ (λ (n i : ℕ). wordsFrom n i (y .a) (y .b) (y .c) (y .d)) left place)
           ∙ append-assoc (take ((r + 1) * 4) w) (y .a ∷ y .b ∷ y .c ∷ y .d ∷ [])
           (wordsFrom (36 - r * 4) (r * 4 + 8) (y .a) (y .b) (y .c) (y .d))

@@ -6,15 +6,14 @@ use mathlib.Core.List.{List}
 use mathlib.Core.Path.{_≡_}
 use Prim.Native.Nat.{ℕ, _+_, _-_, _*_, _%_, _<_, _≤_}
 use Rattle.rounds.specs.declared.columns.Columns.{Columns}
-use Rattle.aes_standard.specs.State.{at, byteOf, invMixColumns}
-use Rattle.rounds.specs.Words.{fourWords}
+use Rattle.aes_standard.specs.State.{at, invMixColumns}
+use Rattle.rounds.specs.Words.{Bytes, fourWords}
 
 -- The word v is InvMixColumns of the word w.
-pub record Unmixed (w v : ℕ) : Type 0 where
-  pub byte0 : byteOf v 0 ≡ at (invMixColumns (fourWords w 0 0 0)) 0
-  pub byte1 : byteOf v 1 ≡ at (invMixColumns (fourWords w 0 0 0)) 1
-  pub byte2 : byteOf v 2 ≡ at (invMixColumns (fourWords w 0 0 0)) 2
-  pub byte3 : byteOf v 3 ≡ at (invMixColumns (fourWords w 0 0 0)) 3
+abbrev pub Unmixed : ℕ → ℕ → Type 0
+Unmixed w v =
+    let column = invMixColumns (fourWords w 0 0 0) in
+    Bytes v (at column 0) (at column 1) (at column 2) (at column 3)
 
 -- The word v is what the inverse cipher takes for the word w of round key r: InvMixColumns of it in rounds 1 to 9, and
 -- itself in rounds 0 and 10.

@@ -1,4 +1,4 @@
-// The S-box and its inverse, as FIPS 197 prints them (figures 7 and 14): a row of sixteen for each first digit, in hexadecimal.
+// The S-box and its inverse, as FIPS 197 prints them (figures 7 and 14): a row of sixteen for each first digit.
 
 // The S-box: entry b is SubBytes of the byte b.
 pub const SBOX: [u8; 256] = *b"\

@@ -12,7 +12,7 @@ use Rattle.lists.proofs.WordLaws.{length-bigBytes}
 use Rattle.aes_standard.specs.State.{at, byteOf}
 use Rattle.field.specs.Mixing.{word}
 use Rattle.rounds.specs.Words.{WordAt, fourWords}
-use Rattle.rounds.proofs.StoreLaws.{part-tabulated}
+use Rattle.rounds.proofs.StoreLaws.{tabulate-partAt}
 
 -- dividing by 256 again and again
 abbrev divided : ℕ → ℕ → ℕ
@@ -43,12 +43,12 @@ big-is x i =
 high-byte : (x n : ℕ) → x / 4294967296 / n % 256 ≡ x / (4294967296 * n) % 256
 high-byte x n = ap (λ (y : ℕ). y % 256) (div-div-eq-div-mul x 4294967296 n)
 
-halves : (x : ℕ)
+bigBytes-halves : (x : ℕ)
     → byteOf (x / 4294967296) 0 ∷ byteOf (x / 4294967296) 1 ∷ byteOf (x / 4294967296) 2 ∷ byteOf (x / 4294967296) 3
     ∷ byteOf (x % 4294967296) 0 ∷ byteOf (x % 4294967296) 1 ∷ byteOf (x % 4294967296) 2 ∷ byteOf (x % 4294967296) 3 ∷ []
     ≡ bigBytes 8 x
 unfolding byteOf
-halves x =
+bigBytes-halves x =
     let low3 : x % 4294967296 / 16777216 % 256 ≡ x / 16777216 % 256 = omega arith in
     let low2 : x % 4294967296 / 65536 % 256 ≡ x / 65536 % 256 = omega arith in
     let low1 : x % 4294967296 / 256 % 256 ≡ x / 256 % 256 = omega arith in
@@ -60,7 +60,7 @@ halves x =
 -- the code's sixteen bytes of two words
 pub pair-is : (x y : ℕ)
     → fourWords (x / 4294967296) (x % 4294967296) (y / 4294967296) (y % 4294967296) ≡ bigBytes 8 x ++ bigBytes 8 y
-pair-is x y = ap₂ _++_ (halves x) (halves y)
+pair-is x y = ap₂ _++_ (bigBytes-halves x) (bigBytes-halves y)
 
 -- a byte, eight bytes and the rest, laid down one after the other
 pub text-laid : (prefix address : ℕ) (bytes out : List ℕ) → length out ≡ 9 + length bytes
@@ -90,18 +90,18 @@ text-is prefix address bytes out a l l' h e f g =
 pub big-size : (a : List ℕ) (address : ℕ) → a ≡ bigBytes 8 address → length a ≡ 8
 big-size a address e = ap length e ∙ length-bigBytes 8 address
 
--- the code's word of two halves, each of four bytes, the highest first
-regrouped : (a b c d e f g h : ℕ)
+-- the code's word of two bigBytes-halves, each of four bytes, the highest first
+big-of-halves : (a b c d e f g h : ℕ)
     → word a b c d * 4294967296 + word e f g h ≡ big (a ∷ b ∷ c ∷ d ∷ e ∷ f ∷ g ∷ h ∷ [])
 unfolding word big little
-regrouped a b c d e f g h = omega arith
+big-of-halves a b c d e f g h = omega arith
 
 pub word-is : (l : List ℕ) (k x y : ℕ) → k + 8 ≤ length l → WordAt l k x → WordAt l (k + 4) y
     → x * 4294967296 + y ≡ big (partAt k 8 l)
 word-is l k x y fits high low =
     ap₂ (λ (m n : ℕ). m * 4294967296 + n) (high .is) (low .is)
-    ∙ regrouped (at l k) (at l (k + 1)) (at l (k + 2)) (at l (k + 3)) (at l (k + 4)) (at l (k + 4 + 1))
+    ∙ big-of-halves (at l k) (at l (k + 1)) (at l (k + 2)) (at l (k + 3)) (at l (k + 4)) (at l (k + 4 + 1))
     (at l (k + 4 + 2)) (at l (k + 4 + 3))
     ∙ (λ i. big (at l (sym (add-zero k) i) ∷ at l (k + 1) ∷ at l (k + 2) ∷ at l (k + 3) ∷ at l (k + 4)
     ∷ at l (add-assoc k 4 1 i) ∷ at l (add-assoc k 4 2 i) ∷ at l (add-assoc k 4 3 i) ∷ []))
-    ∙ ap big (part-tabulated 8 l k fits)
+    ∙ ap big (tabulate-partAt 8 l k fits)

@@ -54,5 +54,5 @@ through-back t u v x f z h g turn run =
     ap flipped (run .by back (shares-back t h) (puts-back u g) ∙ ap (cipherBy back v) (block-changed x f turn))
 
 -- the code's way from a block to its cipher
-pub enciphered : (t w s x z : List ℕ) → Table 256 mixedEntry t → x ≡ state (at s) → Through t t w x z → z ≡ cipher w s
-enciphered t w s x z h load run = through-there t w x z h run ∙ ap (cipher w) load ∙ cipher-state w s
+pub encipher-is : (t w s x z : List ℕ) → Table 256 mixedEntry t → x ≡ state (at s) → Through t t w x z → z ≡ cipher w s
+encipher-is t w s x z h load run = through-there t w x z h run ∙ ap (cipher w) load ∙ cipher-state w s

@@ -1,6 +1,6 @@
 -- `aes::decipher` meets its promise.
 use Rattle.ways.proofs.CipherLaws.{through-back}
-use Rattle.aes.proofs.DecipherLaws.{deciphered}
+use Rattle.aes.proofs.DecipherLaws.{decipher-is}
 use Rattle.rounds.specs.Words.{blockOf}
 use borrow.Author.Needs.{needs}
 use Rattle.aes.proofs.decipher.Statement.{statement}
@@ -24,7 +24,7 @@ returns c =
     let f = run .before .flip in
     let z = run .through in
     let y = turned .flip2 in
-    deciphered (args .key .now) (w .result) (v .result) (args .block .now) (blockOf (x .result)) (c .bytes-of .result)
+    decipher-is (args .key .now) (w .result) (v .result) (args .block .now) (blockOf (x .result)) (c .bytes-of .result)
     (z .result) (y .result)
     (w .ensures) (v .ensures) (x .ensures .block)
     (through-back (t .result) (u .result) (v .result) (x .result) (f .result) (blockOf (z .result)) (t .ensures)

@@ -1,6 +1,6 @@
 -- `aes::encipher_to` meets its promise.
-use Rattle.rounds.proofs.StoreLaws.{stored, put-all}
-use Rattle.ways.proofs.CipherLaws.{enciphered}
+use Rattle.rounds.proofs.StoreLaws.{fourWords-stored, putAt-all}
+use Rattle.ways.proofs.CipherLaws.{encipher-is}
 use Rattle.rounds.specs.Words.{blockOf}
 use mathlib.Core.Path.{_≡_, _∙_}
 use lib.ListN.{length}
@@ -26,10 +26,10 @@ returns c =
     let table = at-table third in
     let args = table .before .args in
     let x = run .through .result in
-    stored (args .out .now) _ _ _ _ 0 (x .a) (x .b) (x .c) (x .d) (omega (arith, size))
+    fourWords-stored (args .out .now) _ _ _ _ 0 (x .a) (x .b) (x .c) (x .d) (omega (arith, size))
     (first .put-word .ensures) (second .put-word2 .ensures) (third .put-word3 .ensures) (c .put-word4 .ensures)
-    ∙ put-all 16 (blockOf x) (args .out .now) (size)
-    ∙ enciphered (table .mixed .result) (args .w .now) (args .block .now) (blockOf (load .columns-of .result))
+    ∙ putAt-all 16 (blockOf x) (args .out .now) (size)
+    ∙ encipher-is (table .mixed .result) (args .w .now) (args .block .now) (blockOf (load .columns-of .result))
     (blockOf x)
     (table .mixed .ensures) (load .columns-of .ensures .block) (run .through .ensures)
 

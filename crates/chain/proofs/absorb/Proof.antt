@@ -7,7 +7,7 @@ use lib.ListN.{length, drop}
 use native.Mathlib.Omega.{arith}
 use Rattle.rounds.specs.Words.{blockOf}
 use Rattle.aes_standard.specs.Chain.{absorbed, lastOfChain}
-use Rattle.chain.proofs.ChainLaws.{absorbed-one, absorbed-none, absorbed-from, absorbed-start, no-block}
+use Rattle.chain.proofs.ChainLaws.{absorbed-one, absorbed-none, absorbed-from, absorbed-start, lastOfChain-none}
 use Rattle.chain.proofs.absorb.Statement.{statement}
 use Rattle.chain.proofs.absorb.Tie as tie
 
@@ -21,7 +21,7 @@ abbrev μ-loop : tie.MeasureT-loop
 returns : tie.Need-returns Inv-loop μ-loop
 returns c =
     let args = c .before .before .before .args in
-    no-block (args .w .now) (args .before .now) (args .b .now) (omega arith)
+    lastOfChain-none (args .w .now) (args .before .now) (args .b .now) (omega arith)
 
 loop-holds : tie.Need-loop-holds Inv-loop μ-loop
 loop-holds c =

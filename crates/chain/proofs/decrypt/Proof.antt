@@ -7,12 +7,14 @@ use Rattle.chain.proofs.decrypt.Tie as tie
 
 returns : tie.Need-returns
 returns c =
-    let args = c .before .before .before .before .before .before .before .before .before .args in
-    c .before .before .unchain .ensures
-    ∙ eqDecrypt-cbcDecrypt (args .key .now) (c .before .before .before .before .before .before .before .expand
-    .result) (c .before .before .before .before .before .invert .result) (args .iv .now) (args .b .now)
-    (c .before .before .before .before .before
-    .before .before .expand .ensures) (c .before .before .before .before .before .invert .ensures)
+    let run = c .before .before in
+    let inverse = run .before .before .before in
+    let words = inverse .before .before in
+    let args = words .before .before .args in
+    run .unchain .ensures
+    ∙ eqDecrypt-cbcDecrypt (args .key .now) (words .expand .result) (inverse .invert .result) (args .iv .now)
+        (args .b .now)
+    (words .expand .ensures) (inverse .invert .ensures)
 
 pub decrypt-spec : {M : Type 1} → statement M
 decrypt-spec =

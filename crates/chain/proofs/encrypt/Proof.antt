@@ -34,16 +34,17 @@ store-requires c κs = omega (arith, c .before .before .before .before .before .
 
 loop-again : tie.Need-loop-again Inv-loop μ-loop
 loop-again c =
-    let args = c .before .before .before .before .before .before .before .before .before .before .before .before .args
-    in
-    let turn = c .before .before .before .before .before .before .before .before .loop in (
+    let laid = c .before .before in
+    let block = laid .before .before in
+    let start = block .before .before .before .before in
+    let args = start .before .before .before .before .args in
+    let turn = start .loop in
+    let link = block .link in (
       search needs,
-      after-more (turn .i) _ _ (args .b .now) (turn .b)
-          (blockOf (c .before .before .before .before .link .result)) _ _ _ (omega arith)
-          refl refl (c .before .before .store .ensures)
-          (chained-one (args .w .now) _ (turn .i) (blockOf (turn .x)) (turn .b)
-          (blockOf (c .before .before .before .before .link .result)) (omega arith)
-          (c .before .before .before .before .link .ensures)) (turn .inv .1),
+      after-more (turn .i) _ _ (args .b .now) (turn .b) (blockOf (link .result)) _ _ _ (omega arith) refl refl
+          (laid .store .ensures)
+          (chained-one (args .w .now) _ (turn .i) (blockOf (turn .x)) (turn .b) (blockOf (link .result)) (omega arith)
+          (link .ensures)) (turn .inv .1),
     )
 
 same-length : tie.Need-same-length Inv-loop μ-loop

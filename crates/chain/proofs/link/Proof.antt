@@ -1,5 +1,5 @@
 -- `chain::link` meets its promise.
-use Rattle.chain.proofs.ChainLaws.{linked}
+use Rattle.chain.proofs.ChainLaws.{link-is}
 use Rattle.ways.proofs.CipherLaws.{through-there}
 use Rattle.rounds.specs.Words.{blockOf}
 use borrow.Author.Needs.{needs}
@@ -10,7 +10,7 @@ returns : tie.Need-returns
 returns c =
     let args = c .before .before .before .before .args in
     let pre = c .before .before .before .before .pre in
-    linked (args .w .now) (args .b .now) (args .k) (blockOf (args .before))
+    link-is (args .w .now) (args .b .now) (args .k) (blockOf (args .before))
     (blockOf (c .before .before .columns-at .result)) (blockOf (c .before
     .plus .result)) (blockOf (c .through .result)) (pre .1) (c .before .before .columns-at .ensures)
     (c .before .plus .ensures)

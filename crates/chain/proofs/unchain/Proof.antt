@@ -13,7 +13,7 @@ use Rattle.rounds.specs.Ways.{eqInvCipher}
 use Rattle.chain.specs.Equivalent.{eqDecrypt}
 use Rattle.chain.proofs.ChainLaws.{After, after-none, after-more, after-all, unchained-one, unchained-none}
 use Rattle.chain.proofs.ChainLaws.{unchained-from}
-use Rattle.rounds.proofs.StoreLaws.{bytes-part}
+use Rattle.rounds.proofs.StoreLaws.{state-partAt}
 use Rattle.chain.proofs.unchain.Statement.{statement}
 use Rattle.chain.proofs.unchain.Tie as tie
 
@@ -61,7 +61,7 @@ loop-again c =
       after-more (turn .i) _ _ (args .b .now) (turn .b) block _ _ _ (omega arith) refl refl
           (c .before .before .unlink .ensures)
           (unchained-one inv _ (turn .i) (blockOf (turn .x)) (turn .b) (blockOf (next .result)) block (omega arith)
-          (next .ensures ∙ bytes-part (turn .b) (turn .i * 16) (omega (arith, turn .inv .1 .size))) refl)
+          (next .ensures ∙ state-partAt (turn .b) (turn .i * 16) (omega (arith, turn .inv .1 .size))) refl)
           (turn .inv .1),
     )
 

@@ -1,6 +1,6 @@
 -- `chain::unlink` meets its promise.
-use Rattle.rounds.proofs.StoreLaws.{stored}
-use Rattle.chain.proofs.ChainLaws.{unlinked}
+use Rattle.rounds.proofs.StoreLaws.{fourWords-stored}
+use Rattle.chain.proofs.ChainLaws.{unlink-is}
 use Rattle.ways.proofs.CipherLaws.{through-back}
 use Rattle.rounds.specs.Words.{blockOf}
 use Rattle.lists.specs.Parts.{putAt}
@@ -76,10 +76,10 @@ returns c =
     let args = start .args in
     let x = load .columns-at in
     let z = run .through in
-    stored (args .b .now) _ _ _ _ (args .k) _ _ _ _ (start .pre .1 .1)
+    fourWords-stored (args .b .now) _ _ _ _ (args .k) _ _ _ _ (start .pre .1 .1)
     (first .put-word .ensures) (second .put-word2 .ensures) (third .put-word3 .ensures) (fourth .put-word4 .ensures)
     ∙ ap (λ (l : List ℕ). putAt (args .k) 16 l (args .b .now))
-    (unlinked (args .v .now) (args .b .now) (blockOf (x .result)) (args .k) (z .result) (args .before)
+    (unlink-is (args .v .now) (args .b .now) (blockOf (x .result)) (args .k) (z .result) (args .before)
     (start .pre .1 .1) (x .ensures)
     (through-back (args .t .now) (args .u .now) (args .v .now) (x .result) (flip .flip .result) (blockOf (z .result))
     (start .pre .0) (start .pre .1 .0) (flip .flip .ensures) (z .ensures)))

@@ -30,21 +30,23 @@ loop-holds c = (
 
 loop-again : tie.Need-loop-again Inv-loop μ-loop
 loop-again c =
-    let turn = c .before .before .before .before .before .loop in (
+    let key = c .before .before in
+    let start = key .before .before .before in
+    let args = start .before .before .before .before .before .args in
+    let turn = start .loop in
+    let next = key .next in (
       search needs,
       turn .inv .1,
-      rw (c .put2 .ensures) (laid-next
-          (c .before .before .before .before .before .before .before .before .before .before
-          .args .key .now) (turn .w) (turn .r) (turn .x) (c .before .before .next .result) (omega arith)
-          (with-constant _ (turn .r) (turn .x) (c .before
-          .before .next .result) (turn .inv .1) (omega arith) (c .before .before .next .ensures)) (turn .inv .2)),
+      rw (c .put2 .ensures) (laid-next (args .key .now) (turn .w) (turn .r) (turn .x) (next .result) (omega arith)
+          (with-constant _ (turn .r) (turn .x) (next .result) (turn .inv .1) (omega arith) (next .ensures))
+              (turn .inv .2)),
     )
 
 returns : tie.Need-returns Inv-loop μ-loop
 returns c =
     let turn = c .before .loop in
-    laid-all (c .before .before .before .before .before .before .args .key .now) (turn .w) (turn .r) (turn .x)
-    (omega arith) (turn .inv .2)
+    let args = c .before .before .before .before .before .before .args in
+    laid-all (args .key .now) (turn .w) (turn .r) (turn .x) (omega arith) (turn .inv .2)
 
 pub expand-spec : {M : Type 1} → statement M
 expand-spec =

@@ -20,12 +20,14 @@ loop-holds c = (search needs, refl, keys-none (c .before .before .args .w .now) 
 
 loop-again : tie.Need-loop-again Inv-loop μ-loop
 loop-again c =
-    let turn = c .before .before .before .before .before .before .loop in
-    let key = c .before .before .inverse-key in (
+    let made = c .before .before in
+    let start = made .before .before .before .before in
+    let args = start .before .before .before .args in
+    let turn = start .loop in
+    let key = made .inverse-key in (
       search needs,
       rw (c .put .ensures) (simp length-set (turn .inv .1)),
-      keys-more (c .before .before .before .before .before .before .before .before .before .args .w .now) (turn .v) _
-          (turn .r) (key .result) (turn .inv .1) (omega arith) (turn .inv .2)
+      keys-more (args .w .now) (turn .v) _ (turn .r) (key .result) (turn .inv .1) (omega arith) (turn .inv .2)
           (key .ensures) (c .put .ensures),
     )
 

@@ -11,13 +11,14 @@ use Rattle.schedule.proofs.next.Tie as tie
 returns : tie.Need-returns
 unfolding _⊕_
 returns c =
-    let args = c .before .before .before .before .before .args in
+    let part = c .before .before .before in
+    let turned = part .before in
+    let start = turned .before in
+    let args = start .args in
     record {
       first = ap (λ (z : ℕ). bitXor (args .x .a) z)
-          (fourth-part (args .t .now) (args .x .d) (c .before .before .before .before .turn-three
-          .result) (args .rcon) (c .before .before .before .substituted .result)
-          (c .before .before .before .before .before .pre) (c .before .before .before
-          .before .turn-three .ensures) (c .before .before .before .substituted .ensures));
+          (fourth-part (args .t .now) (args .x .d) (turned .turn-three .result) (args .rcon) (part .substituted .result)
+          (start .pre) (turned .turn-three .ensures) (part .substituted .ensures));
       second = refl;
       third = refl;
       fourth = refl;

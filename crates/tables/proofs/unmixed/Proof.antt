@@ -12,7 +12,8 @@ returns : tie.Need-returns
 unfolding _⊕_ xtimes productBy _•_ digit fromDigits invAffine inverses listedInvSub word share unmixedEntry
 returns c =
     let unmixing = share 14 11 13 9 in
-    table-by 256 (λ k. unmixing (listedInvSub k)) unmixedEntry (λ k h. ap unmixing (listedInvSub-invSubByte k h)) _ refl tt
+    table-by 256 (λ k. unmixing (listedInvSub k)) unmixedEntry (λ k h. ap unmixing (listedInvSub-invSubByte k h)) _
+    refl tt
 
 pub unmixed-spec : {M : Type 1} → statement M
 unmixed-spec = tie.close (tie.spec returns)

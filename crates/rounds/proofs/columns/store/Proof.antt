@@ -1,5 +1,5 @@
 -- `rounds::columns::store` meets its promise.
-use Rattle.rounds.proofs.StoreLaws.{stored}
+use Rattle.rounds.proofs.StoreLaws.{fourWords-stored}
 use borrow.Author.Needs.{needs}
 use Rattle.rounds.proofs.columns.store.Statement.{statement}
 use Rattle.rounds.proofs.columns.store.Tie as tie
@@ -12,7 +12,7 @@ returns c =
     let first = second .before .before .before .before in
     let start = first .before .before .before in
     let args = start .args in
-    stored (args .b .now) _ _ _ _ (args .k) (args .x .a) (args .x .b) (args .x .c) (args .x .d) (start .pre)
+    fourWords-stored (args .b .now) _ _ _ _ (args .k) (args .x .a) (args .x .b) (args .x .c) (args .x .d) (start .pre)
     (first .put-word .ensures) (second .put-word2 .ensures) (third .put-word3 .ensures) (fourth .put-word4 .ensures)
 
 pub store-spec : {M : Type 1} → statement M
