@@ -1,12 +1,12 @@
 -- The laws of rules as lists: which rule or which of two lists answers, and what a table says at one of its keys and
 -- past them all.
-use Prim.Native.Nat.{ℕ, _<_}
+use Prim.Native.Nat.{ℕ}
 use native.Mathlib.Omega.{arith}
-use mathlib.Core.Path.{_≡_, refl, sym, _∙_, subst}
+use mathlib.Core.Path.{_≡_, refl, sym, _∙_}
 use mathlib.Core.Bool.{Bool, true, false, not, _&&_, false≢true}
 use mathlib.Core.List.{List, [], _∷_, _++_}
 use lib.Dec.{eqb, ltb}
-use borrow.Author.Tests.{eqb-true, ne-eqb, ltb-true, not-true}
+use borrow.Author.Tests.{eqb-true, eqb-false, ne-eqb, ltb-true, not-true}
 use Rattle.lists.specs.If.{if}
 use Rattle.lists.proofs.Cases.{by-test, both-hold}
 use Rattle.instructions.specs.Rules.{firstOf, orElse, pick}
@@ -27,6 +27,12 @@ if-each P false x y p q = q
 pub firstOf-none : (b : Bool) (n rest : ℕ) → (n ≡ 0 → ⊥) → if b n rest ≡ 0 → (b ≡ false) × (rest ≡ 0)
 firstOf-none true n rest d e = absurd (d e)
 firstOf-none false n rest d e = (refl, e)
+
+-- of two numbers in a row, where neither is there
+pub orElse-none : (a b : ℕ) → orElse a b ≡ 0 → (a ≡ 0) × (b ≡ 0)
+unfolding orElse
+orElse-none a b z =
+    by-test (eqb a 0) (λ h. (eqb-true a 0 h, rw h at z)) (λ h. absurd (eqb-false a 0 h (rw h at z)))
 
 -- no rule of the list has number 0
 abbrev pub numbered : List (Bool × ℕ) → Bool

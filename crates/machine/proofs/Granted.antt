@@ -2,8 +2,8 @@
 use Prim.Native.Nat.{ℕ, _+_, _*_, _/_, _%_, _≤_, _<_}
 use native.Mathlib.Omega.{arith}
 use mathlib.Core.Path.{_≡_, refl, sym, ap, _∙_}
-use mathlib.Core.Bool.{Bool, true, false, _&&_}
-use mathlib.Core.List.{List, [], _++_, append-nil}
+use mathlib.Core.Bool.{Bool, true, false}
+use mathlib.Core.List.{List, append-nil}
 use lib.ListN.{length, set}
 use lib.Dec.{eqb}
 use borrow.Author.Tests.{eq-eqb, ne-eqb}
@@ -13,15 +13,15 @@ use Rattle.lists.specs.Words.{little, littleBytes}
 use Rattle.lists.proofs.PartLaws.{part-part}
 use Rattle.model.specs.Tags.{Tag, noTag, secureInstruction, tagNamed}
 use Rattle.model.specs.Lines.{lineAt, putLine}
-use Rattle.model.specs.Log.{Note, Counts, noCounts, countsOf}
+use Rattle.model.specs.Log.{Counts, noCounts, countsOf}
 use Rattle.model.specs.Placement.{holding}
 use Rattle.model.specs.Requests.{perform}
-use Rattle.model.specs.Cached.{Cached, Did, cached, cachedHandle, readyPlace, hitPlace, writePlace, accessPlace}
+use Rattle.model.specs.Cached.{Cached, cached, cachedHandle, readyPlace, hitPlace, writePlace, accessPlace}
 use Rattle.model.specs.Cached.{serves, evictAll, evictPlace, fillPlace, thenDo}
 use Rattle.model.proofs.Ways.{ready-hit, ready-miss}
-use Rattle.directory.specs.Numbers.{entryOf, numberOf}
+use Rattle.directory.specs.Numbers.{numberOf}
 use Rattle.directory.specs.Direct.{direct}
-use Rattle.instructions.specs.Wishes.{Wish, idle, word, newKey, grant, gotFrom}
+use Rattle.instructions.specs.Wishes.{Wish, idle, word, grant, gotFrom}
 use Rattle.sealing.specs.Lines.{drkOf}
 use Rattle.ciphers.specs.Cipher.{aesCipher}
 use Rattle.cache.specs.Lent.{Fit}

@@ -12,7 +12,6 @@ use Rattle.instructions.specs.Fields.{opcode}
 use Rattle.instructions.specs.Operations.{executed}
 use Rattle.instructions.specs.Suspend.{tampered, entered, returned}
 use Rattle.instructions.specs.Faults.{lateFault}
-use Rattle.instructions.specs.Wishes.{Got}
 use Rattle.instructions.specs.Step.{knownFault, finished}
 use Rattle.registers.specs.Effects.{Holds, Returns, Finishes, nextKey}
 use Rattle.registers.specs.declared.record.Special.{Special}

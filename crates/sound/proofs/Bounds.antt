@@ -8,12 +8,11 @@ use mathlib.Core.Bool.{Bool, true, false, true≢false}
 use mathlib.Core.List.{List, [], _++_}
 use lib.ListN.{length}
 use lib.Dec.{eqb, ltb}
-use borrow.Author.Tests.{ne-eqb, eqb-true, ltb-false}
+use borrow.Author.Tests.{eqb-true, ltb-false}
 use Rattle.lists.specs.If.{if}
 use Rattle.lists.specs.Parts.{putAt}
 use Rattle.lists.specs.Words.{littleBytes}
 use Rattle.lists.proofs.Cases.{by-test}
-use Rattle.model.specs.Tags.{noTag, secureData}
 use Rattle.model.specs.Cipher.{Cipher}
 use Rattle.model.specs.CipherLaws.{CipherLaws}
 use Rattle.model.specs.Log.{Note}

@@ -6,19 +6,13 @@ use mathlib.Core.Bool.{Bool, not}
 use mathlib.Core.List.{List, _++_}
 use lib.ListN.{length}
 use lib.Dec.{eqb, leb}
-use borrow.Author.Tests.{eqb-true, eqb-false, leb-false, not-false}
+use borrow.Author.Tests.{eqb-true, leb-false, not-false}
 use Rattle.lists.specs.Bytes.{Bytes}
-use Rattle.lists.proofs.Cases.{by-test}
 use Rattle.model.specs.CipherLaws.{Sized}
 use Rattle.instructions.specs.Rules.{firstOf}
 use Rattle.instructions.specs.Refusals.{orElse, recordFlaws, lineFlaws, bufferFlaws}
 use Rattle.instructions.specs.Calls.{Call, callFlaws, Machine, Setup, refusal}
-use Rattle.instructions.proofs.RuleLaws.{firstOf-none}
-
--- neither of two numbers, of which the second counts where the first is 0
-or-else-zero : (a b : ℕ) → orElse a b ≡ 0 → b ≡ 0
-unfolding orElse
-or-else-zero a b z = by-test (eqb a 0) (λ h. rw h at z) (λ h. absurd (eqb-false a 0 h (rw h at z)))
+use Rattle.instructions.proofs.RuleLaws.{firstOf-none, orElse-none}
 
 -- a line that is not refused is a line of memory
 pub line-in : (N M n : ℕ) (rest : List (Bool × ℕ)) → M ≡ N * 64 → firstOf (lineFlaws M n ++ rest) ≡ 0
@@ -42,6 +36,6 @@ pub none-refused : {S : Type 0} (H : Setup S) (call : Call) (m : Machine S) → 
     → firstOf (callFlaws (H .memory .size (m .memory)) call) ≡ 0
 unfolding refusal
 none-refused H call m z =
-    let f = firstOf (callFlaws (H .memory .size (m .memory)) call) in
-    or-else-zero (firstOf (recordFlaws (m .processor))) f
-    (or-else-zero (firstOf (H .flaws (m .memory))) (orElse (firstOf (recordFlaws (m .processor))) f) z)
+    let own = firstOf (callFlaws (H .memory .size (m .memory)) call) in
+    let r = firstOf (recordFlaws (m .processor)) in
+    orElse-none r own (orElse-none (firstOf (H .flaws (m .memory))) (orElse r own) z .1) .1

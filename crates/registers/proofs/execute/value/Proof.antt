@@ -1,5 +1,5 @@
 -- `registers::execute::value` meets its promise.
-use mathlib.Core.Path.{refl, _∙_, ap}
+use mathlib.Core.Path.{refl, _∙_}
 use Rattle.instructions.specs.Fields.{fieldB, fieldC}
 use Rattle.registers.proofs.ByOpcode.{Reads, read, value-at, value-none}
 use borrow.Author.Needs.{needs}
