@@ -16,8 +16,8 @@ pub extern "C" fn hq_run(
     dir: &mut [u32],
     n: u64,
 ) -> Report
-    ensures { λ x. ⌜ Leaves (run n) (before (now (p .entry)) mem macs cache dir) x []
-        (after (now (p .exit)) mem macs cache dir) ⌝ }
+    ensures { λ x. ⌜ Leaves (run n) (before (now (p .entry)) mem macs cache dir) x [] (after (now (p .exit))
+        mem macs cache dir) ⌝ }
 {
     let a = host::running::run(*p, mem, macs, cache, dir, n);
     *p = a.processor;

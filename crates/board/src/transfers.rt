@@ -16,8 +16,8 @@ pub extern "C" fn hq_bus_read(
     line: &mut [u8],
     n: u64,
 ) -> Report
-    ensures { λ x. ⌜ Leaves (busRead n (now (line .entry))) (before (now (p .entry)) mem macs cache dir) x (now (line .exit))
-        (after (now (p .exit)) mem macs cache dir) ⌝ }
+    ensures { λ x. ⌜ Leaves (busRead n (now (line .entry))) (before (now (p .entry)) mem macs cache dir)
+        x (now (line .exit)) (after (now (p .exit)) mem macs cache dir) ⌝ }
 {
     let a = host::transfers::bus_read(*p, mem, macs, cache, dir, line, n);
     *p = a.processor;
@@ -35,8 +35,8 @@ pub extern "C" fn hq_bus_write(
     line: &[u8],
     n: u64,
 ) -> Report
-    ensures { λ x. ⌜ Leaves (busWrite n (now (line .entry))) (before (now (p .entry)) mem macs cache dir) x (now (line .entry))
-        (after (now (p .exit)) mem macs cache dir) ⌝ }
+    ensures { λ x. ⌜ Leaves (busWrite n (now (line .entry))) (before (now (p .entry)) mem macs cache dir)
+        x (now (line .entry)) (after (now (p .exit)) mem macs cache dir) ⌝ }
 {
     let a = host::transfers::bus_write(*p, mem, macs, cache, dir, line, n);
     *p = a.processor;
@@ -54,8 +54,8 @@ pub extern "C" fn hq_bus_write_mac(
     mac: &[u8],
     n: u64,
 ) -> Report
-    ensures { λ x. ⌜ Leaves (busMac n (now (mac .entry))) (before (now (p .entry)) mem macs cache dir) x (now (mac .entry))
-        (after (now (p .exit)) mem macs cache dir) ⌝ }
+    ensures { λ x. ⌜ Leaves (busMac n (now (mac .entry))) (before (now (p .entry)) mem macs cache dir)
+        x (now (mac .entry)) (after (now (p .exit)) mem macs cache dir) ⌝ }
 {
     let a = host::transfers::bus_write_mac(*p, mem, macs, cache, dir, mac, n);
     *p = a.processor;

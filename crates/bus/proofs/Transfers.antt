@@ -46,10 +46,12 @@ module _ (n : ℕ) (s : Cached) (k : Counts) (t : Cached) (evicted : Does (evict
       → Handles (busWrite n line) s (some []) k
       (record { key = t .key; mem = mem′; macs = t .macs; cache = t .cache; dir = t .dir })
   unfolding cachedHandle putLine
-  write-done size stored = record { answered = refl; counted = evicted .counted; left = rw (stored, size, evicted .left) }
+  write-done size stored =
+      record { answered = refl; counted = evicted .counted; left = rw (stored, size, evicted .left) }
 
   pub mac-done : {mac macs′ : List ℕ} → length mac ≡ 16 → macs′ ≡ putAt (n * 16) (length mac) mac (t .macs)
       → Handles (busMac n mac) s (some []) k
       (record { key = t .key; mem = t .mem; macs = macs′; cache = t .cache; dir = t .dir })
   unfolding cachedHandle putMac
-  mac-done size stored = record { answered = refl; counted = evicted .counted; left = rw (stored, size, evicted .left) }
+  mac-done size stored =
+      record { answered = refl; counted = evicted .counted; left = rw (stored, size, evicted .left) }

@@ -37,7 +37,8 @@ pub fn read(
 // A part goes to its place in a buffer.
 fn store(part: &[u8], whole: &mut [u8], a: usize)
     requires { ⌜ a + length (now part) ≤ length (now whole) ⌝ }
-    ensures { λ _. ⌜ now (whole .exit) ≡ putAt a (length (now (part .entry))) (now (part .entry)) (now (whole .entry)) ⌝ }
+    ensures { λ _. ⌜ now (whole .exit)
+        ≡ putAt a (length (now (part .entry))) (now (part .entry)) (now (whole .entry)) ⌝ }
 {
     let e = a + part.len();
     bytes::copy(part, &mut whole[a..e]);

@@ -1,31 +1,29 @@
 -- The two sheets obey the rule: agreement holds behind the power cut, over the cold run, at the new start, and over
 -- the warm run.
-use mathlib.Core.Path.{_≡_, refl, sym, ap, _∙_}
+use mathlib.Core.Path.{_≡_, refl, ap}
 use mathlib.Core.Bool.{true}
-use mathlib.Core.List.{List, [], _∷_}
+use mathlib.Core.List.{[], _∷_}
 use Prim.Native.Nat.{ℕ, _/_}
 use lib.ListN.{length}
 use Rattle.lists.specs.Bytes.{Bytes}
 use Rattle.lists.proofs.ByteLaws.{bytes-none}
 use Rattle.model.specs.Uncached.{Uncached}
 use Rattle.model.specs.Cached.{Cached, asItStands}
-use Rattle.keeps.specs.Good.{MadeOfBytes}
 use Rattle.agree.proofs.Everything.{fresh-agrees}
 use Rattle.instructions.specs.Board.{documentBoard}
 use Rattle.instructions.specs.Record.{Processor}
-use Rattle.instructions.specs.Calls.{run, powerCut, bufferOf, Machine, Result}
-use Rattle.sound.specs.Acceptable.{Acceptable}
+use Rattle.instructions.specs.Calls.{run, bufferOf, Machine}
 use Rattle.sound.proofs.Lent.{lent-good}
 use Rattle.sound.proofs.Document.{document-laws}
 use Rattle.ciphers.specs.Cipher.{aesCipher}
 use Rattle.ciphers.proofs.Laws.{aesLaws}
 use Rattle.demand3.specs.Statement as meaning
-use Rattle.demand3.specs.Statement.{withCache, withoutCache, SameOutside, Startable, Agreeing, no-more, bytes-then}
+use Rattle.demand3.specs.Statement.{withCache, withoutCache, SameOutside, Agreeing, no-more, bytes-then}
 use Rattle.demand3.proofs.Starts.{cut-starts}
 use Rattle.demand3.proofs.Demand3.{always-same, calls-keep-agreement}
 use Rattle.host.specs.Outcome.{resultOf}
 use Rattle.sheets.specs.Runs.{emptied, coldRun, again, warmRun}
-use Rattle.code_claims.specs.Sheets.{coldBeside, warmBeside, ObeyTheRule, SheetsObeyTheRule}
+use Rattle.code_claims.specs.Sheets.{coldBeside, warmBeside, SheetsObeyTheRule}
 
 -- two machines that agree, for N lines and C slots
 abbrev Alike : ℕ → ℕ → Machine Uncached → Machine Cached → Type 0

@@ -1,5 +1,5 @@
 -- Demand 3 at the code holds: each contract carries the theorem on the meaning over one call.
-use mathlib.Core.Path.{_≡_, refl, sym, ap, _∙_}
+use mathlib.Core.Path.{_≡_, sym, ap, _∙_}
 use mathlib.Core.List.{List, [], _∷_}
 use lib.ListN.{length-append}
 use Prim.Native.Nat.{ℕ}

@@ -1,12 +1,11 @@
 -- A call that is not refused leaves what the accepted call of the meaning gives.
 use mathlib.Core.Path.{_≡_, refl, sym, ap, ap₂, _∙_}
-use mathlib.Core.Bool.{Bool, true, not, _&&_}
+use mathlib.Core.Bool.{Bool, true}
 use mathlib.Core.List.{List, [], _++_}
 use mathlib.Core.Option.{some}
 use Prim.Native.Nat.{ℕ, zero, suc, _/_, _%_, _<_, _≤_}
-use native.Mathlib.Omega.{arith}
-use borrow.Author.Tests.{eqb-true, leb-true, ltb-false, not-false}
-use lib.Dec.{eqb, leb, ltb}
+use borrow.Author.Tests.{leb-true}
+use lib.Dec.{eqb, leb}
 use lib.ListN.{length}
 use Rattle.lists.proofs.Cases.{both-hold}
 use Rattle.model.specs.Log.{Counts, noCounts, countsOf}
@@ -17,10 +16,9 @@ use Rattle.instructions.specs.Rules.{firstOf}
 use Rattle.instructions.specs.Board.{documentBoard}
 use Rattle.instructions.specs.Record.{Processor}
 use Rattle.instructions.specs.Refusals.{sizeFine, lineFlaws, bufferFlaws, runFlaws}
-use Rattle.instructions.specs.Calls.{Call, run, callFlaws, Machine, Result, cachedSetup, changed, asked, accepted}
+use Rattle.instructions.specs.Calls.{Call, callFlaws, Machine, Result, cachedSetup, changed, asked, accepted}
 use Rattle.instructions.specs.Calls.{runFrom, counts}
-use Rattle.sound.proofs.Programs.{none-first}
-use Rattle.sound.proofs.Refused.{line-in}
+use Rattle.sound.proofs.Refused.{line-in, buffer-is, run-is}
 use Rattle.sound.proofs.Document.{document-laws}
 use Rattle.ciphers.specs.Cipher.{aesCipher}
 use Rattle.cache.specs.Lent.{Fit}
@@ -33,19 +31,8 @@ use Rattle.machine.specs.Runs.{RunGives, running}
 use Rattle.registers.specs.Map.{processorOf, keyOf}
 use Rattle.registers.specs.Effects.{Holds}
 use Rattle.registers.specs.declared.record.Processor as code
-use Rattle.host.specs.Outcome.{resultOf, Gives, Leaves, Reports, Answers}
+use Rattle.host.specs.Outcome.{resultOf, Gives, Leaves, Answers}
 use Rattle.host.proofs.Refusing.{Judged, accepted-is, own-none, in-order}
-
--- a buffer that is not refused has its size
-pub buffer-is : (k : ℕ) (x : List ℕ) → firstOf (bufferFlaws k x) ≡ 0 → length x ≡ k
-unfolding bufferFlaws
-buffer-is k x z = eqb-true (length x) k (not-false (eqb (length x) k) (none-first (not (eqb (length x) k)) 107 0
-    (λ q. omega arith) z .0))
-
--- a run that is not refused is of no more than 10,000 instructions
-run-is : (n : ℕ) → firstOf (runFlaws n) ≡ 0 → n ≤ 10000
-unfolding runFlaws
-run-is n z = ltb-false 10000 n (none-first (ltb 10000 n) 108 0 (λ q. omega arith) z .0)
 
 -- ---- what the core asks for, once a call is not refused
 module _ {call : Call} {l : Lent} {no : ℕ} (j : Judged call l no) (right : no ≡ 0) where

@@ -1,34 +1,27 @@
 -- A refused call leaves what it was lent, and a call that is not refused was lent a machine in good order.
 use mathlib.Core.Path.{_≡_, refl, sym, ap, _∙_}
-use mathlib.Core.Bool.{true, false}
 use mathlib.Core.List.{List}
 use Prim.Native.Nat.{ℕ}
-use borrow.Author.Tests.{eq-eqb, ne-eqb, eqb-true, eqb-false}
+use borrow.Author.Tests.{eq-eqb, ne-eqb}
 use lib.Dec.{eqb}
 use lib.ListN.{length}
 use Rattle.lists.specs.If.{if}
-use Rattle.lists.proofs.Cases.{by-test}
 use Rattle.model.specs.Cipher.{Cipher}
 use Rattle.model.specs.Log.{noCounts, countsOf}
 use Rattle.model.specs.Cached.{Cached, cached}
 use Rattle.instructions.specs.Rules.{firstOf}
 use Rattle.instructions.specs.Board.{Board, documentBoard}
-use Rattle.instructions.specs.Refusals.{orElse, cachedFlaws, rowFlaws}
+use Rattle.instructions.specs.Refusals.{cachedFlaws, rowFlaws}
 use Rattle.instructions.specs.Calls.{Call, bufferOf, callFlaws, Machine, cachedSetup, refusal, refused, accepted}
 use Rattle.instructions.specs.Calls.{called, counts}
 use Rattle.instructions.specs.Listing.{listingRefusal}
-use Rattle.sound.proofs.Refused.{none-refused}
+use Rattle.sound.proofs.Refused.{lent-unrefused, none-refused}
 use Rattle.sound.proofs.Lent as sound
 use Rattle.sound.proofs.Document.{document-laws}
 use Rattle.ciphers.specs.Cipher.{aesCipher}
 use Rattle.machine.specs.declared.answer.Answer.{Answer}
 use Rattle.machine.specs.Lent.{Lent, machineIn}
-use Rattle.host.specs.Outcome.{resultOf, Gives, Leaves, Answers, lowest}
-
--- of two refusals the first does not apply
-or-else-first : (a b : ℕ) → orElse a b ≡ 0 → a ≡ 0
-unfolding orElse
-or-else-first a b e = by-test (eqb a 0) (eqb-true a 0) (λ (f : eqb a 0 ≡ false). absurd (eqb-false a 0 f (rw f at e)))
+use Rattle.host.specs.Outcome.{resultOf, Leaves, Answers, lowest}
 
 -- ---- on any board
 module _ (B : Board) (c : Cipher) (call : Call) (m : Machine Cached) {no : ℕ} (is : no
@@ -48,8 +41,8 @@ module _ (B : Board) (c : Cipher) (call : Call) (m : Machine Cached) {no : ℕ} 
 
     -- what was lent is not refused, and neither is the call itself
     pub lent-none : firstOf (cachedFlaws B (m .memory)) ≡ 0
-    unfolding refusal cachedSetup
-    lent-none = or-else-first _ _ (sym is ∙ right)
+    unfolding cachedSetup
+    lent-none = lent-unrefused (cachedSetup B c) call m (sym is ∙ right)
 
     pub own-none : firstOf (callFlaws (length (m .memory .mem)) call) ≡ 0
     unfolding cachedSetup cached

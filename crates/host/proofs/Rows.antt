@@ -1,15 +1,15 @@
 -- A directory number's bits as a record of the listing's row.
-use mathlib.Core.Path.{_≡_, refl, sym, ap, _∙_}
-use mathlib.Core.Bool.{Bool, true, false}
+use mathlib.Core.Path.{_≡_, refl}
+use mathlib.Core.Bool.{true, false}
 use mathlib.Core.List.{List, [], _∷_}
 use Prim.Native.Nat.{ℕ, zero, suc, _/_, _%_, _<_, _≤_}
 use native.Mathlib.Omega.{arith}
-use borrow.Author.Tests.{eq-eqb, ne-eqb, eqb-true, eqb-false}
+use borrow.Author.Tests.{ne-eqb, eqb-true, eqb-false}
 use lib.Dec.{eqb}
 use lib.ListN.{length, getD}
 use Rattle.lists.specs.If.{if}
 use Rattle.lists.proofs.Cases.{by-test}
-use Rattle.model.specs.Tags.{noTag, secureInstruction, secureData, tagNumber}
+use Rattle.model.specs.Tags.{tagNumber}
 use Rattle.directory.specs.Numbers.{usedOf, tagOf, dirtyOf, lineOf, entryOf}
 use Rattle.host.specs.Row.{rowOf}
 

@@ -16,7 +16,8 @@ ghost use Rattle.host.specs.Outcome.{Leaves};
 
 // Everything zero but DRK and SRH.
 fn cleared(p: Processor) -> Processor
-    ensures { λ r. ⌜ Holds (reset documentBoard (processorOf (p .r) (p .special))) (keyOf (p .special)) (r .r) (r .special) ⌝ }
+    ensures { λ r. ⌜ Holds (reset documentBoard (processorOf (p .r) (p .special))) (keyOf (p .special))
+        (r .r) (r .special) ⌝ }
 {
     let q = p.special;
     Processor {

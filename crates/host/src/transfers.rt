@@ -16,8 +16,8 @@ pub fn bus_read(
     line: &mut [u8],
     n: u64,
 ) -> Answer
-    ensures { λ a. ⌜ Leaves (busRead n (now (line .entry))) (before p mem macs cache dir) (a .report) (now (line .exit))
-        (after (a .processor) mem macs cache dir) ⌝ }
+    ensures { λ a. ⌜ Leaves (busRead n (now (line .entry))) (before p mem macs cache dir)
+        (a .report) (now (line .exit)) (after (a .processor) mem macs cache dir) ⌝ }
 {
     let own = entry::call::transfer(mem.len(), n, line.len(), 64);
     let no = answer::refusal(p, mem.len(), macs.len(), cache.len(), dir, own);
@@ -39,8 +39,8 @@ pub fn bus_write(
     line: &[u8],
     n: u64,
 ) -> Answer
-    ensures { λ a. ⌜ Leaves (busWrite n (now (line .entry))) (before p mem macs cache dir) (a .report) (now (line .entry))
-        (after (a .processor) mem macs cache dir) ⌝ }
+    ensures { λ a. ⌜ Leaves (busWrite n (now (line .entry))) (before p mem macs cache dir)
+        (a .report) (now (line .entry)) (after (a .processor) mem macs cache dir) ⌝ }
 {
     let own = entry::call::transfer(mem.len(), n, line.len(), 64);
     let no = answer::refusal(p, mem.len(), macs.len(), cache.len(), dir, own);
@@ -62,8 +62,8 @@ pub fn bus_write_mac(
     mac: &[u8],
     n: u64,
 ) -> Answer
-    ensures { λ a. ⌜ Leaves (busMac n (now (mac .entry))) (before p mem macs cache dir) (a .report) (now (mac .entry))
-        (after (a .processor) mem macs cache dir) ⌝ }
+    ensures { λ a. ⌜ Leaves (busMac n (now (mac .entry))) (before p mem macs cache dir)
+        (a .report) (now (mac .entry)) (after (a .processor) mem macs cache dir) ⌝ }
 {
     let own = entry::call::transfer(mem.len(), n, mac.len(), 16);
     let no = answer::refusal(p, mem.len(), macs.len(), cache.len(), dir, own);

@@ -1,19 +1,19 @@
 -- A sheet that was filled in from what a run reported and left says what that run did.
-use mathlib.Core.Path.{_≡_, refl, sym, ap, _∙_}
+use mathlib.Core.Path.{_≡_, sym, ap, _∙_}
 use mathlib.Core.Bool.{Bool}
-use mathlib.Core.List.{List, []}
-use Prim.Native.Nat.{ℕ, _+_, _≤_}
+use mathlib.Core.List.{List}
+use Prim.Native.Nat.{ℕ, _≤_}
 use native.Mathlib.Omega.{arith}
 use lib.ListN.{getD}
-use Rattle.model.specs.Log.{Note, Counts, countsOf}
+use Rattle.model.specs.Log.{Counts, countsOf}
 use Rattle.model.specs.Cached.{Cached}
 use Rattle.instructions.specs.Calls.{Machine, Result, counts}
 use Rattle.cache.specs.Lent.{countsIn}
 use Rattle.machine.specs.declared.answer.Report.{Report}
 use Rattle.host.specs.Outcome.{Gives}
 use Rattle.sheets.specs.declared.sheet.Sheet.{Sheet}
-use Rattle.sheets.specs.Figures.{SameNumbers, FilledIn}
-use Rattle.sheets.specs.Says.{sumOver, ordinaryFill, protectedFill, ordinaryWrite, protectedWrite, Says}
+use Rattle.sheets.specs.Figures.{FilledIn}
+use Rattle.sheets.specs.Says.{sumOver, protectedFill, protectedWrite, Says}
 use Rattle.sheets.proofs.Notes.{adds, within}
 
 module _ {x : Result Cached} {r : Report} {buffer : List ℕ} {m : Machine Cached} (g : Gives x r buffer m) where

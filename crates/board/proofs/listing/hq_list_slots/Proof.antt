@@ -84,7 +84,7 @@ use Rattle.board.proofs.listing.planned.Met as planned-thm
 use Rattle.board.proofs.Locals.{Blocks, placed, deaths, held, allocates, receives, vacates}
 use Rattle.board.proofs.Lending.{recordVal, reportVal}
 use Rattle.board.proofs.Wrapper.{fitting, sliced, operand}
-use Rattle.board.proofs.Rows.{written, length-written, rowAt, lists, plan-within}
+use Rattle.board.proofs.FilledRow.{written, length-written, rowAt, lists, plan-within}
 use Rattle.board.proofs.listing.hq_list_slots as face
 use Rattle.board.proofs.listing.hq_list_slots.Key.{name}
 use Rattle.board.proofs.listing.hq_list_slots.Statement.{statement}

@@ -1,5 +1,4 @@
 -- `row_plan` meets its contract: the count by whether there is a refusal.
-use mathlib.Core.Path.{refl}
 use borrow.Author.Needs.{needs}
 use borrow.Author.Tests.{eq-eqb, ne-eqb}
 use Rattle.board.proofs.listing.row_plan.Statement.{statement}

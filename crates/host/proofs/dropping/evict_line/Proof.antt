@@ -12,10 +12,7 @@ use Rattle.host.proofs.dropping.evict_line.Statement.{statement}
 use Rattle.host.proofs.dropping.evict_line.Tie as tie
 
 -- what the head found
-abbrev at-start : tie.After-refusal → tie.Start
-at-start c = c .before .before .before .before .before .before .before
-
-judgement : (c : tie.After-refusal) → let a = at-start c .args in
+judgement : (c : tie.After-refusal) → let a = c .before .before .before .before .before .before .before .args in
     Judged (evictLine (a .n)) (handed (a .p) (a .mem) (a .macs) (a .cache) (a .dir)) (c .refusal .result)
 unfolding callFlaws lineFlaws
 judgement c = judged (c .before .before .line .ensures) (c .refusal .ensures)
@@ -36,7 +33,7 @@ unfolding accepted
 returns-2 c =
     let made = c .before .before .before .before .before .before .before .before .before in
     let left = made .before .before .before .before .before .before in
-    let a = at-start (left .before) .args in
+    let a = left .before .before .before .before .before .before .before .before .args in
     asked-leaves (judgement (left .before)) (left .if1 .left) (c .done .ensures) (same-record (a .p))
     (asks.evict (a .n)) (λ _. []) refl (evict-handles (made .drop-line .ensures))
 

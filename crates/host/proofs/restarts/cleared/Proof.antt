@@ -3,7 +3,6 @@ use Rattle.instructions.specs.Board.{documentBoard}
 use Rattle.instructions.specs.Record.{reset}
 use Rattle.lists.specs.Bytes.{zeros}
 use mathlib.Core.Path.{refl}
-use borrow.Author.Needs.{needs}
 use Rattle.host.proofs.restarts.cleared.Statement.{statement}
 use Rattle.host.proofs.restarts.cleared.Tie as tie
 

@@ -11,10 +11,7 @@ use Rattle.host.proofs.restarts.power_cut.Statement.{statement}
 use Rattle.host.proofs.restarts.power_cut.Tie as tie
 
 -- what the head found
-abbrev at-start : tie.After-refusal → tie.Start
-at-start c = c .before .before .before .before .before .before
-
-judgement : (c : tie.After-refusal) → let a = at-start c .args in
+judgement : (c : tie.After-refusal) → let a = c .before .before .before .before .before .before .args in
     Judged powerCut (handed (a .p) (a .mem) (a .macs) (a .cache) (a .dir)) (c .refusal .result)
 unfolding callFlaws
 judgement c = judged refl (c .refusal .ensures)
@@ -24,10 +21,7 @@ unfolding bufferOf
 returns c = refused-leaves (judgement (c .before .before)) (c .before .if1 .taken) (c .refused .ensures) refl
 
 lose-all-requires : tie.Need-lose-all-requires
-unfolding callFlaws
-lose-all-requires c κs =
-    let left = c .before .before in
-    fit (judgement (left .before)) (left .if1 .left) .cache
+lose-all-requires c κs = let left = c .before .before in fit (judgement (left .before)) (left .if1 .left) .cache
 
 returns-2 : tie.Need-returns-2
 unfolding accepted cachedSetup cached documentBoard

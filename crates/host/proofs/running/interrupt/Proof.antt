@@ -10,10 +10,7 @@ use Rattle.host.proofs.running.interrupt.Statement.{statement}
 use Rattle.host.proofs.running.interrupt.Tie as tie
 
 -- what the head found
-abbrev at-start : tie.After-refusal → tie.Start
-at-start c = c .before .before .before .before .before .before
-
-judgement : (c : tie.After-refusal) → let a = at-start c .args in
+judgement : (c : tie.After-refusal) → let a = c .before .before .before .before .before .before .args in
     Judged interrupt (handed (a .p) (a .mem) (a .macs) (a .cache) (a .dir)) (c .refusal .result)
 unfolding callFlaws
 judgement c = judged refl (c .refusal .ensures)

@@ -9,10 +9,7 @@ use Rattle.host.proofs.running.run.Statement.{statement}
 use Rattle.host.proofs.running.run.Tie as tie
 
 -- what the head found
-abbrev at-start : tie.After-refusal → tie.Start
-at-start c = c .before .before .before .before .before .before .before
-
-judgement : (c : tie.After-refusal) → let a = at-start c .args in
+judgement : (c : tie.After-refusal) → let a = c .before .before .before .before .before .before .before .args in
     Judged (run (a .n)) (handed (a .p) (a .mem) (a .macs) (a .cache) (a .dir)) (c .refusal .result)
 unfolding callFlaws
 judgement c = judged (c .before .before .steps .ensures) (c .refusal .ensures)

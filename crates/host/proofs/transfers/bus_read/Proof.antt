@@ -11,10 +11,7 @@ use Rattle.host.proofs.transfers.bus_read.Statement.{statement}
 use Rattle.host.proofs.transfers.bus_read.Tie as tie
 
 -- what the head found
-abbrev at-start : tie.After-refusal → tie.Start
-at-start c = c .before .before .before .before .before .before .before .before
-
-judgement : (c : tie.After-refusal) → let a = at-start c .args in
+judgement : (c : tie.After-refusal) → let a = c .before .before .before .before .before .before .before .before .args in
     Judged (busRead (a .n) (a .line .now)) (handed (a .p) (a .mem) (a .macs) (a .cache) (a .dir)) (c .refusal .result)
 unfolding callFlaws bufferFlaws
 judgement c = judged (c .before .before .transfer .ensures) (c .refusal .ensures)
@@ -27,7 +24,7 @@ read-requires : tie.Need-read-requires
 unfolding callFlaws bufferFlaws
 read-requires c κs =
     let left = c .before .before .before .before .before .before in
-    let a = at-start (left .before) .args in
+    let a = left .before .before .before .before .before .before .before .before .before .args in
     transfer-asks (judgement (left .before)) (left .if1 .left) (a .n) 64 (a .line .now) refl
 
 returns-2 : tie.Need-returns-2
@@ -35,7 +32,7 @@ unfolding accepted replied
 returns-2 c =
     let made = c .before .before .before .before .before .before .before .before .before .before .before in
     let left = made .before .before .before .before .before .before .before in
-    let a = at-start (left .before) .args in
+    let a = left .before .before .before .before .before .before .before .before .before .args in
     asked-leaves (judgement (left .before)) (left .if1 .left) (c .done .ensures) (same-record (a .p))
     (asks.busRead (a .n)) (replied (a .line .now)) refl (made .read .ensures)
 

@@ -1,10 +1,10 @@
 -- `sheets::sheet::numbers` meets its promise.
-use Rattle.sheets.proofs.Numbers.{no-numbers, one-more}
+use Rattle.sheets.proofs.CopiedNumbers.{no-numbers, one-more}
 use Rattle.sheets.specs.Figures.{SameNumbers}
-use Prim.Native.Nat.{ℕ, _-_, _<_, _≤_}
+use Prim.Native.Nat.{_-_, _≤_}
 use native.Mathlib.Omega.{arith}
 use lib.ListN.{length, length-set}
-use mathlib.Core.Path.{_≡_, _∙_, sym, subst}
+use mathlib.Core.Path.{_≡_, _∙_}
 use borrow.Author.Needs.{needs}
 use Rattle.sheets.proofs.sheet.numbers.Statement.{statement}
 use Rattle.sheets.proofs.sheet.numbers.Tie as tie

@@ -18,9 +18,7 @@ use Rattle.instructions.specs.Board.{documentBoard}
 use Rattle.instructions.specs.Refusals.{orElse, rowFlaws}
 use Rattle.instructions.specs.Listing.{entriesFrom, listingRefusal, listing}
 use Rattle.board.specs.declared.listing.Plan.{Plan}
-use Rattle.model.specs.Log.{noCounts}
 use Rattle.machine.specs.Lent.{Lent, machineIn}
-use Rattle.host.specs.Outcome.{Reports}
 use Rattle.board.specs.Listed.{Lists, Plans}
 use Rattle.host.specs.declared.listing.LineRecord.{LineRecord}
 use Rattle.host.specs.Row.{rowOf}
