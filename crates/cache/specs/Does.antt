@@ -3,8 +3,7 @@ use Prim.Native.Nat.{ℕ}
 use mathlib.Core.Path.{_≡_}
 use mathlib.Core.Bool.{Bool}
 use mathlib.Core.List.{List}
-use Rattle.lists.specs.If.{if}
-use Rattle.model.specs.Tags.{Tag, isChecked}
+use Rattle.model.specs.Tags.{Tag}
 use Rattle.model.specs.Lines.{lineAt, putLine, macAt, putMac, stored, signed}
 use Rattle.model.specs.Log.{Counts, countsOf}
 use Rattle.model.specs.Cached.{Cached, Did, losePlace, loseAll}
@@ -16,10 +15,6 @@ pub record Does (d : Did) (ok : Bool) (k : Counts) (s : Cached) : Type 0 where
   pub answer : ok ≡ d .ok
   pub counted : k ≡ countsOf (d .log)
   pub left : s ≡ d .state
-
--- what a fill counts: a line filled and, under a tag, a MAC checked
-unfoldable pub fillCounts : Tag → Counts
-fillCounts t = record { filled = 1; written = 0; checked = if (isChecked t) 1 0; made = 0 }
 
 -- a slot's line is on its way home: memory has it as it is stored, the MAC area has its MAC, and the slot holds what is stored
 pub record WrittenBack (t : Tag) (key : List ℕ) (n slot : ℕ) (mem macs cache mem′ macs′ cache′ : List ℕ) : Type 0 where

@@ -4,6 +4,7 @@ mod scan;
 
 ghost use mathlib.Core.Path.{_≡_};
 ghost use mathlib.Core.List.{_++_};
+ghost use Prim.Native.Nat.{_≤_};
 ghost use Rattle.instructions.specs.Rules.{firstOf};
 ghost use Rattle.instructions.specs.Board.{documentBoard};
 ghost use Rattle.instructions.specs.Refusals.{orElse, memoryFlaws, cacheFlaws};
@@ -40,6 +41,7 @@ fn memory(mem: usize, macs: usize) -> u32
 
 // 103 where the number of slots or of data bytes is not document 01's, 104 where the directory is not orderly.
 fn slots(mem: usize, cache: usize, dir: &[u32]) -> u32
+    requires { ⌜ mem ≤ 65536 ⌝ }
     ensures { λ r. ⌜ r ≡ firstOf (cacheFlaws documentBoard mem cache (now (dir .entry))) ⌝ }
 {
     let c = dir.len();
@@ -52,7 +54,7 @@ fn slots(mem: usize, cache: usize, dir: &[u32]) -> u32
     if cache != c * 64 {
         return 103;
     }
-    if scan::all_fine(dir, mem / 64) {
+    if scan::all_fine(dir, (mem / 64) as u32) {
         return 0;
     }
     104

@@ -1,15 +1,15 @@
 -- What a memory phase promises: what the cached memory makes of a wish, its counts being the sums over the notes.
 use Prim.Native.Nat.{ℕ, _+_, _*_, _/_, _%_, _<_, _≤_}
 use mathlib.Core.Path.{_≡_}
-use mathlib.Core.Bool.{Bool, false}
+use mathlib.Core.Bool.{Bool, true, false}
 use mathlib.Core.List.{List}
-use lib.ListN.{set}
 use lib.Dec.{eqb}
 use Rattle.lists.specs.Parts.{partAt, putAt}
 use Rattle.lists.specs.Words.{little, littleBytes}
 use Rattle.lists.specs.If.{if}
-use Rattle.model.specs.Tags.{Tag, noTag, secureInstruction}
+use Rattle.model.specs.Tags.{noTag, secureInstruction, tagNamed}
 use Rattle.model.specs.Log.{Counts, countsOf}
+use Rattle.model.specs.Placement.{holding}
 use Rattle.model.specs.Requests.{perform}
 use Rattle.model.specs.Cached.{Cached, cached}
 use Rattle.directory.specs.Direct.{direct}
@@ -36,7 +36,7 @@ pub record Inside (a k M : ℕ) : Type 0 where
 pub record Touches (slot at tag n : ℕ) (write : Bool) (v r : ℕ) (cache dir cache′ dir′ : List ℕ) : Type 0 where
   pub number : r ≡ little (partAt (slot * 64 + at) 8 cache)
   pub bytes : cache′ ≡ if write (putAt (slot * 64 + at) 8 (littleBytes 8 v) cache) cache
-  pub marks : dir′ ≡ if write (set dir slot (9 + 2 * tag + 16 * n)) dir
+  pub marks : dir′ ≡ if write (direct .put dir slot (holding n (tagNamed tag) true)) dir
 
 -- the wish of a fetch: nothing where it faulted, and otherwise the instruction word at pc, as signed code in active mode
 unfoldable pub fetchOf : ℕ → ℕ → ℕ → Wish

@@ -1,55 +1,51 @@
 -- `cache::whole::drop_line` meets its promise.
-use Rattle.model.specs.Log.{noCounts}
+use Rattle.cache.proofs.Dropping.{some-slot, choose-slot, drops-other, drops-held}
+use Rattle.directory.proofs.DirectLaws.{direct-laws}
+use Rattle.directory.specs.Direct.{direct}
 use native.Mathlib.Omega.{arith}
-use Rattle.cache.proofs.Dropping.{some-slot, own-slot, drops-empty, drops-other, drops-held}
+use borrow.Author.Tests.{not-true, not-false}
+use mathlib.Core.Path.{sym, _∙_}
 use borrow.Author.Needs.{needs}
 use Rattle.cache.proofs.whole.drop_line.Statement.{statement}
 use Rattle.cache.proofs.whole.drop_line.Tie as tie
 
-rem-slot : tie.Need-rem-slot
-rem-slot c = some-slot _ (c .before .before .before .before .pre .0)
+choose-requires : tie.Need-choose-requires
+choose-requires c κs = some-slot _ (c .before .before .before .before .before .pre .0)
 
-mul-d : tie.Need-mul-d
-mul-d c = omega (arith, own-slot _ (c .before .before .before .before .args .n) (c .before .before .before .before .pre .0))
+mul-holds : tie.Need-mul-holds
+mul-holds c = omega (arith, choose-slot direct _ _ _ (c .choose .ensures) direct-laws (c .before .before .before .before .before .before .pre .0) (c .before .before .before .before .before .before .pre .1))
 
-slice-read-d : tie.Need-slice-read-d
-slice-read-d c = own-slot _ (c .before .before .before .before .before .args .n) (c .before .before .before .before .before .pre .0)
+slice-read-holds : tie.Need-slice-read-holds
+slice-read-holds c = choose-slot direct _ _ _ (c .before .choose .ensures) direct-laws (c .before .before .before .before .before .before .before .pre .0) (c .before .before .before .before .before .before .before .pre .1)
 
 returns : tie.Need-returns
-unfolding noCounts
-returns c = drops-empty _ _ (c .if1 .taken)
-
-returns-2 : tie.Need-returns-2
-unfolding noCounts
-returns-2 c = drops-other _ _ (c .if2 .taken)
+unfolding direct
+returns c =
+    rw (c .none .ensures)
+    (drops-other direct _ _ _ (c .before .before .before .before .choose .ensures) (sym (c .before .before .holds .ensures) ∙ not-true _ (c .before .if1 .taken)))
 
 evict-requires : tie.Need-evict-requires
-evict-requires c κs = (
-  c .before .before .before .before .before .before .before .before .before .before .before .pre .0,
-  own-slot _ (c .before .before .before .before
-      .before .before .before .before .before .before .before .args .n) (c .before .before .before .before .before .before .before .before .before
-      .before .before .pre .0),
-)
+evict-requires c κs = (c .before .before .before .before .before .before .before .before .before .before .before .before .before .pre .0, choose-slot direct _ _ _ (c .before .before .before .before .before .before .before .choose .ensures) direct-laws (c .before .before .before .before .before .before .before .before .before .before .before .before .before .pre .0) (c .before .before .before .before .before .before .before .before .before .before .before .before .before .pre .1))
 
-returns-3 : tie.Need-returns-3
-returns-3 c =
-    drops-held _ _ _ _ (c .before .before .before .before .before .before .before .before .before .before .before .before .before .before .if1 .left)
-    (c .before .before .before .before .before .before .before .before .before .before .before .before .before .if2 .left) (c .before .before .before
-    .before .before .before .before .before .evict .ensures)
+returns-2 : tie.Need-returns-2
+unfolding direct
+returns-2 c =
+    drops-held direct _ _ _ (c .before .before .before .before .before .before .before .before .before .before .before .before .before .before .before .before .choose .ensures) _ _ (sym (c .before .before .before .before .before .before .before .before .before .before .before .before .before .before .holds .ensures) ∙ not-false _ (c .before .before .before .before .before .before .before .before .before .before .before .before .before .if1 .left)) (c .before .before .before .before .before .before .before .before .evict .ensures)
 
 pub drop-line-spec : {M : Type 1} → statement M
 drop-line-spec =
     tie.close
     (tie.spec
-    rem-slot
-    mul-d
-    slice-read-d
-    returns
+    choose-requires
+    mul-holds
+    slice-read-holds
+    (λ c κs. search needs)
+    (λ c κs. search needs)
     (λ c. search needs)
-    returns-2
+    returns
     evict-requires
     (λ c. search needs)
     (λ c. search needs)
     (λ c. search needs)
     (λ c. search needs)
-    returns-3)
+    returns-2)
