@@ -79,13 +79,17 @@ module _ (P : Placement) (L : PlacementLaws P) where
       }
 
   -- the next slot first, and then the others
-  from-next : (n i : ℕ) (s : Cached) → i < n → evictFrom aesCipher P (n - i) i s ≡ thenDo (evictPlace aesCipher P i s) (evictFrom aesCipher P (n - (i + 1)) (i + 1))
+  from-next : (n i : ℕ) (s : Cached) → i < n → evictFrom aesCipher P (n - i) i s ≡ thenDo
+      (evictPlace aesCipher P i s) (evictFrom aesCipher P (n - (i + 1)) (i + 1))
   unfolding evictFrom
   from-next n i s h =
       let e : n - i ≡ suc (n - (i + 1)) = omega arith in
       rw e
 
-  pub emptied-more : (n i : ℕ) (s₀ s t : Cached) (k e r : Counts) → i < n → Emptied P L n i s₀ s k → Does (evictPlace aesCipher P i s) true e t → r ≡ plus k e → length (t .dir) ≡ length (s .dir) → length (t .mem) ≡ length (s .mem) → length (t .macs) ≡ length (s .macs) → length (t .cache) ≡ length (s .cache) → Emptied P L n (i + 1) s₀ t r
+  pub emptied-more : (n i : ℕ) (s₀ s t : Cached) (k e r : Counts) → i < n → Emptied P L n i s₀ s k
+      → Does (evictPlace aesCipher P i s) true e t → r ≡ plus k e → length (t .dir) ≡ length (s .dir)
+      → length (t .mem) ≡ length (s .mem) → length (t .macs) ≡ length (s .macs)
+      → length (t .cache) ≡ length (s .cache) → Emptied P L n (i + 1) s₀ t r
   unfolding thenDo
   emptied-more n i s₀ s t k e r h E D q hd hm ha hc =
       let f = evictFrom aesCipher P (n - (i + 1)) (i + 1) in
@@ -101,16 +105,19 @@ module _ (P : Placement) (L : PlacementLaws P) where
         fit = evicted-fit P s t i e L (E .fit) hp D;
         small = small-plus i k e r (E .small) (evicted-small P s t i e D) q;
         ok = evictFrom-ok (n - (i + 1)) (i + 1) t;
-        state = E .state ∙ (ap (λ (z : Did). z .state) (from-next n i s h) ∙ ap (λ (z : Cached). f z .state) (sym (D .left)));
+        state = E .state ∙ (ap (λ (z : Did). z .state) (from-next n i s h)
+            ∙ ap (λ (z : Cached). f z .state) (sym (D .left)));
         counted =
             E .counted
             ∙ (ap (λ (z : Did). plus k (countsOf (z .log))) (from-next n i s h)
             ∙ (ap (plus k) (counts-append (a .log) (f (a .state) .log))
             ∙ (sym (plus-assoc k (countsOf (a .log)) (countsOf (f (a .state) .log)))
-            ∙ ap₂ plus (ap (plus k) (sym (D .counted)) ∙ sym q) (ap (λ (z : Cached). countsOf (f z .log)) (sym (D .left))))));
+            ∙ ap₂ plus (ap (plus k) (sym (D .counted)) ∙ sym q)
+            (ap (λ (z : Cached). countsOf (f z .log)) (sym (D .left))))));
       }
 
-  pub emptied-all : (n i : ℕ) (s₀ s : Cached) (k : Counts) → n ≤ i → Emptied P L n i s₀ s k → Does (evictAll aesCipher P s₀) true k s
+  pub emptied-all : (n i : ℕ) (s₀ s : Cached) (k : Counts) → n ≤ i → Emptied P L n i s₀ s k
+      → Does (evictAll aesCipher P s₀) true k s
   unfolding evictFrom evictAll countsOf
   emptied-all n i s₀ s k h E =
       let e : n - i ≡ 0 = omega arith in
@@ -123,7 +130,8 @@ module _ (P : Placement) (L : PlacementLaws P) where
 -- a slot is lost
 module _ (p : ℕ) (cache dir : List ℕ) where
   pub loses-used : (cache′ dir′ : List ℕ) → direct .look dir p .used ≡ true
-      → (cache′ ≡ putLine p (zeros 64) cache) × (dir′ ≡ direct .clear dir p) → Loses p cache dir cache′ dir′
+      → (cache′ ≡ putLine p (zeros 64) cache) × (dir′ ≡ direct .clear dir p)
+      → Loses p cache dir cache′ dir′
   loses-used cache′ dir′ u e =
       record {
         left =
@@ -149,7 +157,9 @@ pub record Lost (n i : ℕ) (cache₀ dir₀ cache dir : List ℕ) : Type 0 wher
   pub sizes : length cache ≡ length dir * 64
   pub places : length dir ≡ length dir₀
   pub bytes : length cache ≡ length cache₀
-  pub state : (key mem macs : List ℕ) → loseAll direct (record { key = key; mem = mem; macs = macs; cache = cache₀; dir = dir₀ }) ≡ loseFrom direct (n - i) i (record { key = key; mem = mem; macs = macs; cache = cache; dir = dir })
+  pub state : (key mem macs : List ℕ)
+      → loseAll direct (record { key = key; mem = mem; macs = macs; cache = cache₀; dir = dir₀ }) ≡ loseFrom
+      direct (n - i) i (record { key = key; mem = mem; macs = macs; cache = cache; dir = dir })
 
 pub lost-none : (cache dir : List ℕ) → length cache ≡ length dir * 64 → Lost (length dir) 0 cache dir cache dir
 unfolding loseAll
@@ -157,7 +167,9 @@ lost-none cache dir h =
     let e : length dir - 0 ≡ length dir = omega arith in
     record { within = omega arith; slots = refl; sizes = h; places = refl; bytes = refl; state = λ key mem macs. rw e }
 
-pub lost-more : (n i : ℕ) (cache₀ dir₀ cache dir cache′ dir′ : List ℕ) → i < n → Lost n i cache₀ dir₀ cache dir → Loses i cache dir cache′ dir′ → length cache′ ≡ length cache → length dir′ ≡ length dir → Lost n (i + 1) cache₀ dir₀ cache′ dir′
+pub lost-more : (n i : ℕ) (cache₀ dir₀ cache dir cache′ dir′ : List ℕ) → i < n
+    → Lost n i cache₀ dir₀ cache dir → Loses i cache dir cache′ dir′ → length cache′ ≡ length cache
+    → length dir′ ≡ length dir → Lost n (i + 1) cache₀ dir₀ cache′ dir′
 unfolding loseFrom
 lost-more n i cache₀ dir₀ cache dir cache′ dir′ h L D hc hd =
     let e : n - i ≡ suc (n - (i + 1)) = omega arith in
@@ -167,10 +179,12 @@ lost-more n i cache₀ dir₀ cache dir cache′ dir′ h L D hc hd =
       sizes = hc ∙ (L .sizes ∙ ap (λ (z : ℕ). z * 64) (sym hd));
       places = hd ∙ L .places;
       bytes = hc ∙ L .bytes;
-      state = λ key mem macs. rw e at (L .state key mem macs) ∙ ap (loseFrom direct (n - (i + 1)) (i + 1)) (sym (D .left key mem macs));
+      state = λ key mem macs. rw e at (L .state key mem macs) ∙ ap (loseFrom direct (n - (i + 1)) (i + 1))
+          (sym (D .left key mem macs));
     }
 
-pub lost-all : (n i : ℕ) (cache₀ dir₀ cache dir : List ℕ) → n ≤ i → Lost n i cache₀ dir₀ cache dir → LosesAll cache₀ dir₀ cache dir
+pub lost-all : (n i : ℕ) (cache₀ dir₀ cache dir : List ℕ) → n ≤ i → Lost n i cache₀ dir₀ cache dir
+    → LosesAll cache₀ dir₀ cache dir
 unfolding loseFrom
 lost-all n i cache₀ dir₀ cache dir h L =
     let e : n - i ≡ 0 = omega arith in

@@ -26,7 +26,8 @@ use Rattle.cache.specs.Does.{Does, WrittenBack, Loses}
 
 -- in a fit memory a line, its MAC entry and a slot lie within their buffers
 pub room : (s : Cached) (n p : ℕ) → Fit s → p < length (s .dir) → n < length (s .mem) / 64
-    → (n * 64 + 64 ≤ length (s .mem)) × (n * 16 + 16 ≤ length (s .macs)) × (p * 64 + 64 ≤ length (s .cache)) × (n ≤ 1024)
+    → (n * 64 + 64 ≤ length (s .mem)) × (n * 16 + 16 ≤ length (s .macs)) × (p * 64 + 64 ≤ length (s .cache))
+    × (n ≤ 1024)
 unfolding direct-laws
 room s n p F hp hn =
     (omega (arith, F .mem), omega (arith, F .mem, F .macs), omega (arith, F .cache), omega (arith, F .orderly .lines))
@@ -82,9 +83,11 @@ module _ (P : Placement) (p : ℕ) (s : Cached) where
       let body = lineAt p (s .cache) in
       let x = stored aesCipher (here .tag) (s .key) (here .line) body in
       let z : length x ≡ 64 =
-      stored-length aesCipher aesLaws (s .key) (here .line) (here .tag) body (length-part (p * 64) 64 (s .cache) fits) in
+      stored-length aesCipher aesLaws (s .key) (here .line) (here .tag) body (length-part (p * 64) 64 (s .cache) fits)
+      in
       let f : cache′ ≡ putAt (p * 64) 64 (zeros 64) (s .cache) =
-      e .0 ∙ (ap (putAt (p * 64) 64 (zeros 64)) (w .slots) ∙ put-put (p * 64) 64 x (zeros 64) (s .cache) z (omega arith)) in
+      e .0 ∙ (ap (putAt (p * 64) 64 (zeros 64)) (w .slots) ∙ put-put (p * 64) 64 x (zeros 64) (s .cache) z
+      (omega arith)) in
       rw (evict-dirty aesCipher P p s u d)
       (record {
         answer = refl;

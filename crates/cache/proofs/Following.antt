@@ -56,7 +56,8 @@ pub small-bounded : (b : ℕ) (k : Counts) → b ≤ 2 ^ 62 → Small b k
 small-bounded b k h S =
     (omega (arith, S .filled), omega (arith, S .written), omega (arith, S .checked), omega (arith, S .made))
 
-pub within-small : (f w b : ℕ) (d : Did) (ok : Bool) (k : Counts) (t : Cached) → f ≤ b → w ≤ b → Within f w (d .log)
+pub within-small : (f w b : ℕ) (d : Did) (ok : Bool) (k : Counts) (t : Cached) → f ≤ b → w ≤ b
+    → Within f w (d .log)
     → Does d ok k t → Small b k
 within-small f w b d ok k t hf hw W D =
     rw (D .counted)
@@ -74,11 +75,13 @@ module _ (P : Placement) (s t : Cached) (p : ℕ) (k : Counts) where
   evicted-fit L F hp D =
       let N = length (s .mem) / 64 in
       let C = length (s .dir) in
-      rw (D .left) (good-fit-at P L N C (evictPlace aesCipher P p s .state) (evict-good aesCipher aesLaws P L N C s p F hp))
+      rw (D .left) (good-fit-at P L N C (evictPlace aesCipher P p s .state)
+      (evict-good aesCipher aesLaws P L N C s p F hp))
 
   pub evicted-small : Does (evictPlace aesCipher P p s) true k t → Small 1 k
   evicted-small D =
-      within-small 0 1 1 (evictPlace aesCipher P p s) true k t (omega arith) (omega arith) (evict-within aesCipher P s p) D
+      within-small 0 1 1 (evictPlace aesCipher P p s) true k t (omega arith) (omega arith)
+      (evict-within aesCipher P s p) D
 
   pub filled-small : (tag : Tag) (n : ℕ) (ok : Bool) → Does (fillPlace aesCipher P tag n p s) ok k t → Small 1 k
   filled-small tag n ok D =

@@ -19,35 +19,52 @@ use Rattle.ciphers.proofs.Laws.{aesLaws}
 use Rattle.cache.specs.Does.{WrittenBack}
 
 -- what is seen of a line under the tag
-pub seen-data : (t : ℕ) (key : List ℕ) (n : ℕ) (l : List ℕ) → t ≡ 2 → seen aesCipher (tagNamed t) key n l ≡ deciphered key (n * 64) l
+pub seen-data : (t : ℕ) (key : List ℕ) (n : ℕ) (l : List ℕ) → t ≡ 2 → seen aesCipher (tagNamed t) key n
+    l ≡ deciphered key (n * 64) l
 unfolding seen aesCipher
 seen-data t key n l e = rw (named-data t e)
 
-pub seen-plain : (t : ℕ) (key : List ℕ) (n : ℕ) (l : List ℕ) → (t ≡ 2 → ⊥) → seen aesCipher (tagNamed t) key n l ≡ l
+pub seen-plain : (t : ℕ) (key : List ℕ) (n : ℕ) (l : List ℕ) → (t ≡ 2 → ⊥)
+    → seen aesCipher (tagNamed t) key n l ≡ l
 unfolding seen
 seen-plain t key n l b = but-data (λ tag. seen aesCipher tag key n l ≡ l) t b refl refl
 
 -- a line brought under the tag
-pub brought-data : (t n p : ℕ) (key m l r s : List ℕ) → t ≡ 2 → p * 64 + 64 ≤ length l → n * 64 + 64 ≤ length m → r ≡ putLine p (lineAt n m) l → s ≡ putLine p (deciphered key (n * 64) (lineAt p r)) r → s ≡ putLine p (seen aesCipher (tagNamed t) key n (lineAt n m)) l
+pub brought-data : (t n p : ℕ) (key m l r s : List ℕ) → t ≡ 2 → p * 64 + 64 ≤ length l
+    → n * 64 + 64 ≤ length m → r ≡ putLine p (lineAt n m) l
+    → s ≡ putLine p (deciphered key (n * 64) (lineAt p r)) r
+    → s ≡ putLine p (seen aesCipher (tagNamed t) key n (lineAt n m)) l
 unfolding putLine lineAt
 brought-data t n p key m l r s e hp hn a b =
     let x = partAt (n * 64) 64 m in
     let z : length x ≡ 64 = length-part (n * 64) 64 m hn in
     b
-    ∙ (rw (a, part-put (p * 64) 64 x l z (omega arith), put-put (p * 64) 64 x (deciphered key (n * 64) x) l z (omega arith), seen-data t key n x e))
+    ∙ (rw (
+      a,
+      part-put (p * 64) 64 x l z (omega arith),
+      put-put (p * 64) 64 x (deciphered key (n * 64) x) l z
+          (omega arith),
+      seen-data t key n x e,
+    ))
 
-pub brought-plain : (t n p : ℕ) (key m l r : List ℕ) → (t ≡ 2 → ⊥) → r ≡ putLine p (lineAt n m) l → r ≡ putLine p (seen aesCipher (tagNamed t) key n (lineAt n m)) l
+pub brought-plain : (t n p : ℕ) (key m l r : List ℕ) → (t ≡ 2 → ⊥) → r ≡ putLine p (lineAt n m) l
+    → r ≡ putLine p (seen aesCipher (tagNamed t) key n (lineAt n m)) l
 brought-plain t n p key m l r b a = a ∙ (rw (seen-plain t key n (lineAt n m) b))
 
 -- a line gone home
-pub home-data : (t n p : ℕ) (key mem macs cache mem′ macs′ cache′ : List ℕ) → t ≡ 2 → p * 64 + 64 ≤ length cache → cache′ ≡ putLine p (enciphered key (n * 64) (lineAt p cache)) cache → macs′ ≡ putMac n (dataMac key (n * 64) (lineAt p cache′)) macs → mem′ ≡ putLine n (lineAt p cache′) mem → WrittenBack (tagNamed t) key n p mem macs cache mem′ macs′ cache′
+pub home-data : (t n p : ℕ) (key mem macs cache mem′ macs′ cache′ : List ℕ) → t ≡ 2
+    → p * 64 + 64 ≤ length cache → cache′ ≡ putLine p (enciphered key (n * 64) (lineAt p cache)) cache
+    → macs′ ≡ putMac n (dataMac key (n * 64) (lineAt p cache′)) macs
+    → mem′ ≡ putLine n (lineAt p cache′) mem → WrittenBack (tagNamed t) key n p mem macs cache mem′ macs′
+    cache′
 unfolding lineAt putLine stored signed aesCipher
 home-data t n p key mem macs cache mem′ macs′ cache′ e hp a b d =
     let y = partAt (p * 64) 64 cache in
     let x = enciphered key (n * 64) y in
     let w : length y ≡ 64 = length-part (p * 64) 64 cache hp in
     let z : length x ≡ 64 = aesLaws .encipher-length key (n * 64) y w in
-    let g : partAt (p * 64) 64 cache′ ≡ x = ap (partAt (p * 64) 64) a ∙ part-put (p * 64) 64 x cache z (omega arith) in
+    let g : partAt (p * 64) 64 cache′ ≡ x = ap (partAt (p * 64) 64) a
+    ∙ part-put (p * 64) 64 x cache z (omega arith) in
     rw (named-data t e)
     (record {
       memory = d ∙ (rw g);
@@ -55,7 +72,8 @@ home-data t n p key mem macs cache mem′ macs′ cache′ e hp a b d =
       slots = a;
     })
 
-pub home-plain : (t n p : ℕ) (key mem macs cache mem′ : List ℕ) → (t ≡ 2 → ⊥) → mem′ ≡ putLine n (lineAt p cache) mem → WrittenBack (tagNamed t) key n p mem macs cache mem′ macs cache
+pub home-plain : (t n p : ℕ) (key mem macs cache mem′ : List ℕ) → (t ≡ 2 → ⊥)
+    → mem′ ≡ putLine n (lineAt p cache) mem → WrittenBack (tagNamed t) key n p mem macs cache mem′ macs cache
 unfolding stored signed lineAt putLine macAt putMac
 home-plain t n p key mem macs cache mem′ b d =
     but-data (λ tag. WrittenBack tag key n p mem macs cache mem′ macs cache) t b
@@ -79,24 +97,30 @@ pub checked-data : (t : ℕ) → t ≡ 2 → _≡_ {A = ℕ} 1 (if (isChecked (t
 unfolding isChecked
 checked-data t e = rw (named-data t e)
 
-pub checked-none : (t : ℕ) → (t ≡ 1 → ⊥) → (t ≡ 2 → ⊥) → _≡_ {A = ℕ} 0 (if (isChecked (tagNamed t)) 1 0)
+pub checked-none : (t : ℕ) → (t ≡ 1 → ⊥) → (t ≡ 2 → ⊥)
+    → _≡_ {A = ℕ} 0 (if (isChecked (tagNamed t)) 1 0)
 unfolding isChecked
 checked-none t a b = rw (named-none t a b)
 
 -- a line under no tag passes
-pub plain-passes : (t : ℕ) (key : List ℕ) (n : ℕ) (l m : List ℕ) → (t ≡ 1 → ⊥) → (t ≡ 2 → ⊥) → true ≡ passes aesCipher (tagNamed t) key n l m
+pub plain-passes : (t : ℕ) (key : List ℕ) (n : ℕ) (l m : List ℕ) → (t ≡ 1 → ⊥) → (t ≡ 2 → ⊥)
+    → true ≡ passes aesCipher (tagNamed t) key n l m
 unfolding passes
 plain-passes t key n l m a b = rw (named-none t a b)
 
-pub code-passes : (t : ℕ) (key : List ℕ) (n : ℕ) (l x m : List ℕ) (r : Bool) → t ≡ 1 → r ≡ passes aesCipher secureInstruction key n l x → r ≡ passes aesCipher (tagNamed t) key n l m
+pub code-passes : (t : ℕ) (key : List ℕ) (n : ℕ) (l x m : List ℕ) (r : Bool) → t ≡ 1
+    → r ≡ passes aesCipher secureInstruction key n l x → r ≡ passes aesCipher (tagNamed t) key n l m
 unfolding passes
 code-passes t key n l x m r e q = rw (named-code t e) q
 
-pub data-passes : (t : ℕ) (key : List ℕ) (n : ℕ) (l m : List ℕ) (r : Bool) → t ≡ 2 → r ≡ passes aesCipher secureData key n l m → r ≡ passes aesCipher (tagNamed t) key n l m
+pub data-passes : (t : ℕ) (key : List ℕ) (n : ℕ) (l m : List ℕ) (r : Bool) → t ≡ 2
+    → r ≡ passes aesCipher secureData key n l m → r ≡ passes aesCipher (tagNamed t) key n l m
 data-passes t key n l m r e q = rw (named-data t e) q
 
--- a write-back counts a line written and, for a data line, a MAC made; a fill a line filled and, under a tag, a MAC checked
-pub counts-written : (t made : ℕ) (k : Counts) → k ≡ noCounts → made ≡ if (isData (tagNamed t)) 1 0 → (n : ℕ)
+-- a write-back counts a line written and, for a data line, a MAC made; a fill a line filled and, under a tag, a MAC
+-- checked
+pub counts-written : (t made : ℕ) (k : Counts) → k ≡ noCounts → made ≡ if (isData (tagNamed t)) 1 0
+    → (n : ℕ)
     → record { filled = k .filled; written = 1; checked = k .checked; made = made }
     ≡ countsOf (Note.evicted (tagNamed t) n true ∷ [])
 unfolding noCounts

@@ -47,8 +47,10 @@ pub fn none() -> Counts
 
 // Two counts together.
 pub fn add(a: Counts, b: Counts) -> Counts
-    requires { ⌜ (a .filled ≤ 2 ^ 62) × (a .written ≤ 2 ^ 62) × (a .checked ≤ 2 ^ 62) × (a .made ≤ 2 ^ 62) ⌝ }
-    requires { ⌜ (b .filled ≤ 2 ^ 62) × (b .written ≤ 2 ^ 62) × (b .checked ≤ 2 ^ 62) × (b .made ≤ 2 ^ 62) ⌝ }
+    requires { ⌜ (a .filled ≤ 2 ^ 62) × (a .written ≤ 2 ^ 62) × (a .checked ≤ 2 ^ 62)
+        × (a .made ≤ 2 ^ 62) ⌝ }
+    requires { ⌜ (b .filled ≤ 2 ^ 62) × (b .written ≤ 2 ^ 62) × (b .checked ≤ 2 ^ 62)
+        × (b .made ≤ 2 ^ 62) ⌝ }
     ensures { λ r. ⌜ countsIn r ≡ plus (countsIn a) (countsIn b) ⌝ }
 {
     Counts {
@@ -63,7 +65,8 @@ pub fn add(a: Counts, b: Counts) -> Counts
 pub fn empty(cache: &mut [u8], dir: &mut [u32], slot: usize)
     requires { ⌜ length (now cache) ≡ length (now dir) * 64 ⌝ }
     requires { ⌜ slot < length (now dir) ⌝ }
-    ensures { λ _. ⌜ (now (cache .exit) ≡ putLine slot (zeros 64) (now (cache .entry))) × (now (dir .exit) ≡ direct .clear (now (dir .entry)) slot) ⌝ }
+    ensures { λ _. ⌜ (now (cache .exit) ≡ putLine slot (zeros 64) (now (cache .entry)))
+        × (now (dir .exit) ≡ direct .clear (now (dir .entry)) slot) ⌝ }
 {
     parts::wipe(cache, slot);
     place::clear(dir, slot);
@@ -104,7 +107,8 @@ fn written(tag: u32) -> Counts
 
 // What filling a line under the tag counts, whether or not its check passed.
 fn filled(tag: u32) -> Counts
-    ensures { λ r. ⌜ ((n : ℕ) (ok : Bool) → countsIn r ≡ countsOf (Note.filled (tagNamed tag) n ok ∷ [])) ⌝ }
+    ensures { λ r. ⌜ ((n : ℕ) (ok : Bool)
+        → countsIn r ≡ countsOf (Note.filled (tagNamed tag) n ok ∷ [])) ⌝ }
 {
     let mut k = none();
     k.filled = 1;
@@ -124,7 +128,9 @@ pub fn evict(
 ) -> Counts
     requires { ⌜ Fit (lent hi lo (now mem) (now macs) (now cache) (now dir)) ⌝ }
     requires { ⌜ slot < length (now dir) ⌝ }
-    ensures { λ r. ⌜ Does (evictPlace aesCipher direct slot (lent hi lo (now (mem .entry)) (now (macs .entry)) (now (cache .entry)) (now (dir .entry)))) true (countsIn r) (lent hi lo (now (mem .exit)) (now (macs .exit)) (now (cache .exit)) (now (dir .exit))) ⌝ }
+    ensures { λ r. ⌜ Does (evictPlace aesCipher direct slot (lent hi lo (now (mem .entry)) (now (macs .entry))
+        (now (cache .entry)) (now (dir .entry)))) true (countsIn r) (lent hi lo (now (mem .exit)) (now (macs .exit))
+        (now (cache .exit)) (now (dir .exit))) ⌝ }
 {
     let d = dir[slot];
     if !number::used(d) {
@@ -155,7 +161,10 @@ fn fill(
 ) -> Ready
     requires { ⌜ Fit (lent hi lo (now mem) (now macs) (now cache) (now dir)) ⌝ }
     requires { ⌜ (slot < length (now dir)) × (n < length (now mem) / 64) × (tag ≤ 2) ⌝ }
-    ensures { λ r. ⌜ Does (fillPlace aesCipher direct (tagNamed tag) n slot (lent hi lo (now (mem .entry)) (now (macs .entry)) (now (cache .entry)) (now (dir .entry)))) (r .ok) (countsIn (r .counts)) (lent hi lo (now (mem .exit)) (now (macs .exit)) (now (cache .exit)) (now (dir .exit))) ⌝ }
+    ensures { λ r. ⌜ Does (fillPlace aesCipher direct (tagNamed tag) n slot
+        (lent hi lo (now (mem .entry)) (now (macs .entry)) (now (cache .entry)) (now (dir .entry)))) (r .ok)
+        (countsIn (r .counts)) (lent hi lo (now (mem .exit)) (now (macs .exit)) (now (cache .exit)) (now (dir .exit)))
+        ⌝ }
 {
     let counts = filled(tag);
     if parts::right(hi, lo, mem, macs, tag, n) {
@@ -182,7 +191,10 @@ pub fn replace(
 ) -> Ready
     requires { ⌜ Fit (lent hi lo (now mem) (now macs) (now cache) (now dir)) ⌝ }
     requires { ⌜ (slot < length (now dir)) × (n < length (now mem) / 64) × (tag ≤ 2) ⌝ }
-    ensures { λ r. ⌜ Does (thenDo (evictPlace aesCipher direct slot (lent hi lo (now (mem .entry)) (now (macs .entry)) (now (cache .entry)) (now (dir .entry)))) (fillPlace aesCipher direct (tagNamed tag) n slot)) (r .ok) (countsIn (r .counts)) (lent hi lo (now (mem .exit)) (now (macs .exit)) (now (cache .exit)) (now (dir .exit))) ⌝ }
+    ensures { λ r. ⌜ Does (thenDo
+        (evictPlace aesCipher direct slot (lent hi lo (now (mem .entry)) (now (macs .entry)) (now (cache .entry))
+        (now (dir .entry)))) (fillPlace aesCipher direct (tagNamed tag) n slot)) (r .ok) (countsIn (r .counts))
+        (lent hi lo (now (mem .exit)) (now (macs .exit)) (now (cache .exit)) (now (dir .exit))) ⌝ }
 {
     let k = evict(hi, lo, mem, macs, cache, dir, slot);
     let f = fill(hi, lo, mem, macs, cache, dir, tag, n, slot);

@@ -25,7 +25,9 @@ pub fn drop_line(
 ) -> Counts
     requires { ⌜ Fit (lent hi lo (now mem) (now macs) (now cache) (now dir)) ⌝ }
     requires { ⌜ n < length (now mem) / 64 ⌝ }
-    ensures { λ r. ⌜ Does (evictLine aesCipher direct n (lent hi lo (now (mem .entry)) (now (macs .entry)) (now (cache .entry)) (now (dir .entry)))) true (countsIn r) (lent hi lo (now (mem .exit)) (now (macs .exit)) (now (cache .exit)) (now (dir .exit))) ⌝ }
+    ensures { λ r. ⌜ Does (evictLine aesCipher direct n (lent hi lo (now (mem .entry)) (now (macs .entry))
+        (now (cache .entry)) (now (dir .entry)))) true (countsIn r) (lent hi lo (now (mem .exit)) (now (macs .exit))
+        (now (cache .exit)) (now (dir .exit))) ⌝ }
 {
     let slot = place::choose(dir, n);
     if !number::holds(dir[slot], n) {
@@ -44,7 +46,9 @@ pub fn evict_all(
     dir: &mut [u32],
 ) -> Counts
     requires { ⌜ Fit (lent hi lo (now mem) (now macs) (now cache) (now dir)) ⌝ }
-    ensures { λ r. ⌜ Does (evictAll aesCipher direct (lent hi lo (now (mem .entry)) (now (macs .entry)) (now (cache .entry)) (now (dir .entry)))) true (countsIn r) (lent hi lo (now (mem .exit)) (now (macs .exit)) (now (cache .exit)) (now (dir .exit))) ⌝ }
+    ensures { λ r. ⌜ Does (evictAll aesCipher direct (lent hi lo (now (mem .entry)) (now (macs .entry))
+        (now (cache .entry)) (now (dir .entry)))) true (countsIn r) (lent hi lo (now (mem .exit)) (now (macs .exit))
+        (now (cache .exit)) (now (dir .exit))) ⌝ }
 {
     let n = dir.len();
     let mut k = slots::none();

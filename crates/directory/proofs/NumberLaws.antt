@@ -71,7 +71,8 @@ number-made : (n t : ℕ) (b : Bool) → t ≤ 2 → numberOf (holding n (tagNam
 unfolding numberOf holding
 number-made n t b h = rw (number-named t h)
 
-pub number-clean : (n t : ℕ) (b : Bool) → t ≤ 2 → b ≡ false → 1 + 2 * t + 16 * n ≡ numberOf (holding n (tagNamed t) b)
+pub number-clean : (n t : ℕ) (b : Bool) → t ≤ 2 → b ≡ false
+    → 1 + 2 * t + 16 * n ≡ numberOf (holding n (tagNamed t) b)
 number-clean n t b h e = rw (e, number-made n t false h) (omega arith)
 
 pub number-dirty : (n t : ℕ) (b : Bool) → t ≤ 2 → b ≡ true
@@ -90,7 +91,8 @@ pub record Sits (N C p d : ℕ) : Type 0 where
 small-line : (d : ℕ) → d < 16384 → d / 16 % 1024 ≡ d / 16
 small-line d h = omega arith
 
-number-bits : (d : ℕ) → isNumber d ≡ true → (d ≡ 0 → ⊥) → (d % 2 ≡ 1) × ((d / 2 % 4 ≤ 2) × (d < 16384))
+number-bits : (d : ℕ) → isNumber d ≡ true → (d ≡ 0 → ⊥) → (d % 2 ≡ 1)
+    × ((d / 2 % 4 ≤ 2) × (d < 16384))
 unfolding isNumber usedOf
 number-bits d h z =
     let a = both-hold (eqb (d % 2) 1) (leb (d / 2 % 4) 2 && ltb d 16384) (rw (ne-eqb d 0 z) at h) in
@@ -172,7 +174,8 @@ low-eleven d u t b =
     odd-is d u = omega arith
 
 -- the last test of the code: the low four bits are not those of a dirty line under tag 1
-pub fine-last : (N C p d : ℕ) → N ≤ 1024 → (d ≡ 0 → ⊥) → d / 16 < N → d / 16 % C ≡ p → (d % 2 ≡ 0 → ⊥)
+pub fine-last : (N C p d : ℕ) → N ≤ 1024 → (d ≡ 0 → ⊥) → d / 16 < N → d / 16 % C ≡ p
+    → (d % 2 ≡ 0 → ⊥)
     → (d / 2 % 4 ≡ 3 → ⊥) → not (eqb (d % 16) 11) ≡ fine N C p d
 fine-last N C p d hN z hn e used tag =
     by-eq (d % 16) 11
@@ -280,7 +283,8 @@ module _ (d n : ℕ) where
       let e : d % 2 ≡ 1 → ⊥ = λ k. omega arith in
       rw (ne-eqb (d % 2) 1 e)
 
-  serves-tag : (t : ℕ) → t ≤ 2 → d / 2 % 4 ≤ 2 → (d / 2 % 4 ≡ t → ⊥) → false ≡ serves (entryOf d) (tagNamed t) n
+  serves-tag : (t : ℕ) → t ≤ 2 → d / 2 % 4 ≤ 2 → (d / 2 % 4 ≡ t → ⊥)
+      → false ≡ serves (entryOf d) (tagNamed t) n
   unfolding serves entryOf tagOf tagNamed
   serves-tag t ht hd h =
       rw (sameTag-false (d / 2 % 4) t hd ht h, and-false (eqb (lineOf d) n)) (sym (and-false (usedOf d)))
@@ -292,7 +296,8 @@ module _ (d n : ℕ) where
       (λ (used : d % 2 ≡ 0 → ⊥).
       serves-tag t ht (number-tag d number) (λ (e : d / 2 % 4 ≡ t). h (omega (arith, used, e))))
 
-  pub serves-same : (t : ℕ) → d % 8 ≡ 1 + 2 * t → t ≤ 2 → eqb (entryOf d .line) n ≡ serves (entryOf d) (tagNamed t) n
+  pub serves-same : (t : ℕ) → d % 8 ≡ 1 + 2 * t → t ≤ 2 → eqb (entryOf d .line) n ≡ serves (entryOf d)
+      (tagNamed t) n
   unfolding serves entryOf usedOf tagOf tagNamed
   serves-same t e ht =
       let u : d % 2 ≡ 1 = low-used d t e in

@@ -36,7 +36,8 @@ each-scan N C p (d ∷ ds) h =
     let q : p + 1 + i ≡ p + suc i = omega arith in
     rw q (h (suc i) (omega arith))))
 
-pub scan-orderly : (N : ℕ) (dir : List ℕ) → 0 < length dir → N ≤ 1024 → allFine N (length dir) 0 dir ≡ true
+pub scan-orderly : (N : ℕ) (dir : List ℕ) → 0 < length dir → N ≤ 1024
+    → allFine N (length dir) 0 dir ≡ true
     → OrderlyDirect N dir
 scan-orderly N dir s l h =
     record {

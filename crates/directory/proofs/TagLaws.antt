@@ -21,7 +21,8 @@ unfolding tagNamed
 named-none t a b = rw (ne-eqb t 1 a, ne-eqb t 2 b)
 
 -- under any tag but Secure Data a fact may be shown for the two others
-pub but-data : (P : Tag → Type 0) (t : ℕ) → (t ≡ 2 → ⊥) → P noTag → P secureInstruction → P (tagNamed t)
+pub but-data : (P : Tag → Type 0) (t : ℕ) → (t ≡ 2 → ⊥) → P noTag → P secureInstruction
+    → P (tagNamed t)
 but-data P t b x y = by-eq t 1 (λ e. rw (named-code t e) y) (λ a. rw (named-none t a b) x)
 
 -- a tag's number is its number, and a number's tag its tag
@@ -49,9 +50,11 @@ pub number-three : (t : ℕ) → t ≡ 3 → _≡_ {A = ℕ} 0 (tagNumber (tagNa
 unfolding tagNumber tagNamed
 number-three t e = rw e
 
-pub sameTag-false : (a b : ℕ) → a ≤ 2 → b ≤ 2 → (a ≡ b → ⊥) → sameTag (tagNamed a) (tagNamed b) ≡ false
+pub sameTag-false : (a b : ℕ) → a ≤ 2 → b ≤ 2 → (a ≡ b → ⊥)
+    → sameTag (tagNamed a) (tagNamed b) ≡ false
 sameTag-false a b ha hb h =
     by-test (sameTag (tagNamed a) (tagNamed b))
     (λ e.
-    absurd (h (sym (number-named a ha) ∙ ap tagNumber (sameTag-true (tagNamed a) (tagNamed b) e) ∙ number-named b hb)))
+    absurd (h (sym (number-named a ha) ∙ ap tagNumber (sameTag-true (tagNamed a) (tagNamed b) e)
+    ∙ number-named b hb)))
     (λ e. e)

@@ -20,24 +20,29 @@ two-first true t rest = refl
 two-first false true rest = refl
 two-first false false rest = refl
 
-memory-first : (M A : ℕ) (flaws : List (Bool × ℕ)) → firstOf (memoryFlaws M A ++ flaws) ≡ orElse (firstOf (memoryFlaws M A)) (firstOf flaws)
+memory-first : (M A : ℕ) (flaws : List (Bool × ℕ)) → firstOf (memoryFlaws M A ++ flaws) ≡ orElse
+    (firstOf (memoryFlaws M A)) (firstOf flaws)
 unfolding memoryFlaws
 memory-first M A flaws = two-first (not (sizeFine M)) (not (eqb A (M / 4))) (firstOf flaws)
 
 -- a flaw of the memory goes before those of the cache
-pub memory-refused : (M A r : ℕ) (flaws : List (Bool × ℕ)) → r ≡ firstOf (memoryFlaws M A) → (r ≡ 0 → ⊥) → r ≡ firstOf (memoryFlaws M A ++ flaws)
+pub memory-refused : (M A r : ℕ) (flaws : List (Bool × ℕ)) → r ≡ firstOf (memoryFlaws M A)
+    → (r ≡ 0 → ⊥) → r ≡ firstOf (memoryFlaws M A ++ flaws)
 unfolding orElse
 memory-refused M A r flaws e wrong = go (firstOf (memoryFlaws M A)) (memory-first M A flaws) e
   where
-    go : (n : ℕ) → firstOf (memoryFlaws M A ++ flaws) ≡ orElse n (firstOf flaws) → r ≡ n → r ≡ firstOf (memoryFlaws M A ++ flaws)
+    go : (n : ℕ) → firstOf (memoryFlaws M A ++ flaws) ≡ orElse n (firstOf flaws) → r ≡ n
+        → r ≡ firstOf (memoryFlaws M A ++ flaws)
     go n h f = rw h (rw (← f, ne-eqb r 0 wrong))
 
-pub memory-passed : (M A r s : ℕ) (flaws : List (Bool × ℕ)) → r ≡ firstOf (memoryFlaws M A) → r ≡ 0 → s ≡ firstOf flaws
+pub memory-passed : (M A r s : ℕ) (flaws : List (Bool × ℕ)) → r ≡ firstOf (memoryFlaws M A) → r ≡ 0
+    → s ≡ firstOf flaws
     → s ≡ firstOf (memoryFlaws M A ++ flaws)
 unfolding orElse
 memory-passed M A r s flaws e right f = go (firstOf (memoryFlaws M A)) (memory-first M A flaws) e
   where
-    go : (n : ℕ) → firstOf (memoryFlaws M A ++ flaws) ≡ orElse n (firstOf flaws) → r ≡ n → s ≡ firstOf (memoryFlaws M A ++ flaws)
+    go : (n : ℕ) → firstOf (memoryFlaws M A ++ flaws) ≡ orElse n (firstOf flaws) → r ≡ n
+        → s ≡ firstOf (memoryFlaws M A ++ flaws)
     go n h g = rw h (rw (← g, eq-eqb r 0 right, f))
 
 -- a memory without flaw is no larger than document 01 allows
@@ -76,7 +81,8 @@ module _ (M bytes : ℕ) (dir : List ℕ) where
           ne-eqb bytes (length dir * 64) h,
         )
 
-    pub slots-scanned : (r : Bool) → bytes ≡ length dir * 64 → r ≡ allFine (M / 64) (length dir) 0 dir → if r 0 104 ≡ refusal
+    pub slots-scanned : (r : Bool) → bytes ≡ length dir * 64 → r ≡ allFine (M / 64) (length dir) 0 dir
+        → if r 0 104 ≡ refusal
     unfolding cacheFlaws documentBoard
     slots-scanned r h e =
         rw (

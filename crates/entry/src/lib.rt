@@ -1,4 +1,5 @@
-// The checks at the entry of a machine call: refusals 101 to 105 of what is lent, and 106, 107, 108 and 110 of the call itself.
+// The checks at the entry of a machine call: refusals 101 to 105 of what is lent, and 106, 107, 108 and 110 of the call
+// itself.
 pub mod call;
 mod scan;
 
@@ -11,7 +12,8 @@ ghost use Rattle.instructions.specs.Refusals.{orElse, memoryFlaws, cacheFlaws};
 
 // The lowest of 101 to 104 that applies to buffers of these lengths and a directory, and 0 where none does.
 pub fn lent(mem: usize, macs: usize, cache: usize, dir: &[u32]) -> u32
-    ensures { λ r. ⌜ r ≡ firstOf (memoryFlaws mem macs ++ cacheFlaws documentBoard mem cache (now (dir .entry))) ⌝ }
+    ensures { λ r. ⌜ r ≡ firstOf (memoryFlaws mem macs ++ cacheFlaws documentBoard mem cache (now (dir .entry)))
+        ⌝ }
 {
     let size = memory(mem, macs);
     if size != 0 {

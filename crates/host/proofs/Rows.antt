@@ -11,7 +11,8 @@ use Rattle.model.specs.Placement.{Entry}
 use Rattle.host.specs.Row.{rowOf}
 
 -- the whole record, by what was read of the number
-pub row-fields : (e : Entry) (used line tag dirty : ℕ) (u d : Bool) → u ≡ e .used → used ≡ if u 1 0 → line ≡ e .line
+pub row-fields : (e : Entry) (used line tag dirty : ℕ) (u d : Bool) → u ≡ e .used → used ≡ if u 1 0
+    → line ≡ e .line
     → tag ≡ tagNumber (e .tag) → d ≡ e .dirty → dirty ≡ if d 1 0
     → record { used = used; line = line; tag = tag; dirty = dirty } ≡ rowOf e
 unfolding rowOf

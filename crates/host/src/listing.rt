@@ -22,7 +22,8 @@ pub struct LineRecord {
 
 // The refusal of a listing into a row of so many records, and 0 where there is none.
 pub fn refusal(p: Processor, mem: &[u8], macs: &[u8], cache: &[u8], dir: &[u32], rows: usize) -> u32
-    ensures { λ r. ⌜ r ≡ listingRefusal documentBoard (machineOf p (now (mem .entry)) (now (macs .entry)) (now (cache .entry)) (now (dir .entry))) rows ⌝ }
+    ensures { λ r. ⌜ r ≡ listingRefusal documentBoard (machineOf p (now (mem .entry)) (now (macs .entry))
+        (now (cache .entry)) (now (dir .entry))) rows ⌝ }
 {
     let q = p.special;
     let own = entry::call::row(rows, dir.len());

@@ -16,7 +16,8 @@ use Rattle.model.specs.Lines.{lineAt, putLine}
 use Rattle.model.specs.Log.{Note, Counts, noCounts, countsOf}
 use Rattle.model.specs.Placement.{Placement, holding}
 use Rattle.model.specs.Requests.{perform}
-use Rattle.model.specs.Cached.{Cached, Did, cached, cachedHandle, readyPlace, hitPlace, writePlace, accessPlace, serves, evictAll, evictPlace, fillPlace, thenDo}
+use Rattle.model.specs.Cached.{Cached, Did, cached, cachedHandle, readyPlace, hitPlace, writePlace, accessPlace}
+use Rattle.model.specs.Cached.{serves, evictAll, evictPlace, fillPlace, thenDo}
 use Rattle.model.proofs.Ways.{ready-hit, ready-miss}
 use Rattle.directory.specs.Direct.{direct}
 use Rattle.instructions.specs.Wishes.{Wish, idle, word, newKey, grant, gotFrom}
@@ -29,7 +30,7 @@ use Rattle.directory.proofs.DirectLaws.{direct-laws}
 use Rattle.machine.specs.Grants.{Grants, Obtains, Inside, Touches, fetchOf}
 use Rattle.registers.specs.Wanted.{wishOf}
 use Rattle.registers.specs.declared.decide.Wanted.{Wanted}
-use Rattle.machine.proofs.WordsLaws.{put-inside}
+use Rattle.machine.proofs.InsideLaws.{put-inside}
 
 -- a hit uses the slot and does nothing else, and a miss is the slow way
 module _ (P : Placement) (s : Cached) (t : Tag) (n p : ℕ) where
@@ -89,7 +90,8 @@ module _ (s t : Cached) (tag : Tag) (a j p : ℕ) (k : Counts) (chosen : p ≡ d
       }
 
   -- and written
-  pub write-granted : (v x : ℕ) (cache′ dir′ : List ℕ) → a % 64 + j ≤ 64 → p * 64 + 64 ≤ length (t .cache)
+  pub write-granted : (v x : ℕ) (cache′ dir′ : List ℕ) → a % 64 + j ≤ 64
+      → p * 64 + 64 ≤ length (t .cache)
       → x ≡ little (partAt (p * 64 + a % 64) j (t .cache))
       → cache′ ≡ putAt (p * 64 + a % 64) j (littleBytes j v) (t .cache)
       → dir′ ≡ direct .put (t .dir) p (holding n tag true) → Does ready true k t
@@ -120,7 +122,8 @@ module _ (s t : Cached) (fault mode pc tag p : ℕ) (ok : Bool) (k : Counts)
     (chosen : p ≡ direct .choose (s .dir) (pc / 64)) (right : fault ≡ 0)
     (e : tagNamed tag ≡ if (eqb mode 1) secureInstruction noTag)
     (D : Does (readyPlace aesCipher direct (tagNamed tag) (pc / 64) p s) ok k t) where
-  pub fetch-read : (x M : ℕ) → Inside pc 4 M → ok ≡ true → x ≡ little (partAt (p * 64 + pc % 64) 4 (t .cache))
+  pub fetch-read : (x M : ℕ) → Inside pc 4 M → ok ≡ true
+      → x ≡ little (partAt (p * 64 + pc % 64) 4 (t .cache))
       → Grants (fetchOf fault mode pc) s false x k t
   unfolding fetchOf
   fetch-read x M I o q =
@@ -150,7 +153,8 @@ grants-obtains wish s t failed x k G =
     }
 
 -- the data access
-pub access-idle : (s : Cached) (q : Wanted) (k : Counts) → k ≡ noCounts → (q .kind ≡ 1 → ⊥) → (q .kind ≡ 2 → ⊥)
+pub access-idle : (s : Cached) (q : Wanted) (k : Counts) → k ≡ noCounts → (q .kind ≡ 1 → ⊥)
+    → (q .kind ≡ 2 → ⊥)
     → Obtains (wishOf q) s false 0 k (s .mem) (s .macs) (s .cache) (s .dir)
 unfolding wishOf
 access-idle s q k z a b =
@@ -206,7 +210,8 @@ module _ (s t : Cached) (q : Wanted) (p : ℕ) (ok : Bool) (k : Counts)
       → Touches p (q .address % 64) (q .tag) (q .address / 64) write (q .value) x (t .cache) (t .dir) cache′ dir′
       → Grants (wish write) s false x k (after cache′ dir′)
   touched true x M cache′ dir′ I o z T =
-      write-granted s t (tagNamed (q .tag)) (q .address) 8 p k chosen (q .value) x cache′ dir′ (I .place) z (T .number)
+      write-granted s t (tagNamed (q .tag)) (q .address) 8 p k chosen (q .value) x cache′ dir′ (I .place) z
+      (T .number)
       (T .bytes) (T .marks) (rw o at D)
   touched false x M cache′ dir′ I o z T =
       let g =
@@ -215,7 +220,8 @@ module _ (s t : Cached) (q : Wanted) (p : ℕ) (ok : Bool) (k : Counts)
 
   pub access-done : (x M : ℕ) (cache′ dir′ : List ℕ) → Inside (q .address) 8 M → ok ≡ true
       → p * 64 + 64 ≤ length (t .cache)
-      → Touches p (q .address % 64) (q .tag) (q .address / 64) (q .write) (q .value) x (t .cache) (t .dir) cache′ dir′
+      → Touches p (q .address % 64) (q .tag) (q .address / 64) (q .write) (q .value) x (t .cache) (t .dir) cache′
+      dir′
       → Obtains (wishOf q) s false x k (t .mem) (t .macs) cache′ dir′
   unfolding wishOf
   access-done x M cache′ dir′ I o z T =

@@ -16,7 +16,8 @@ use Rattle.cache.specs.Lent.{Fit}
 -- a slot of a fit directory has a directory number
 pub slot-number : (s : Cached) (p : ℕ) → Fit s → p < length (s .dir) → isNumber (getD (s .dir) p 0) ≡ true
 unfolding direct-laws
-slot-number s p F hp = fine-number (length (s .mem) / 64) (length (s .dir)) p (getD (s .dir) p 0) (F .orderly .numbers p hp)
+slot-number s p F hp = fine-number (length (s .mem) / 64) (length (s .dir)) p (getD (s .dir) p 0)
+    (F .orderly .numbers p hp)
 
 -- the tag of a fetch
 pub active-tag : (m : ℕ) → m ≡ 1 → tagNamed 1 ≡ if (eqb m 1) secureInstruction noTag

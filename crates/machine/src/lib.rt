@@ -2,4 +2,3 @@
 pub mod phase;
 pub mod run;
 pub mod step;
-mod words;

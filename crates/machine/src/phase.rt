@@ -1,5 +1,4 @@
 // The two memory phases of a step: the fetch, and the data access.
-use crate::words;
 use cache::slots;
 use cache::slots::Counts;
 use cache::slots::Ready;
@@ -68,7 +67,10 @@ fn ready_code(
 ) -> Ready
     requires { ⌜ Fit (lent hi lo (now mem) (now macs) (now cache) (now dir)) ⌝ }
     requires { ⌜ (slot < length (now dir)) × (n < length (now mem) / 64) × (tag ≤ 2) ⌝ }
-    ensures { λ r. ⌜ Does (readyPlace aesCipher direct (tagNamed tag) n slot (lent hi lo (now (mem .entry)) (now (macs .entry)) (now (cache .entry)) (now (dir .entry)))) (r .ok) (countsIn (r .counts)) (lent hi lo (now (mem .exit)) (now (macs .exit)) (now (cache .exit)) (now (dir .exit))) ⌝ }
+    ensures { λ r. ⌜ Does (readyPlace aesCipher direct (tagNamed tag) n slot
+        (lent hi lo (now (mem .entry)) (now (macs .entry)) (now (cache .entry)) (now (dir .entry)))) (r .ok)
+        (countsIn (r .counts)) (lent hi lo (now (mem .exit)) (now (macs .exit)) (now (cache .exit)) (now (dir .exit)))
+        ⌝ }
 {
     if number::serves(dir[slot], tag, n) {
         place::touch(dir, slot);
@@ -94,7 +96,10 @@ fn ready_data(
 ) -> Ready
     requires { ⌜ Fit (lent hi lo (now mem) (now macs) (now cache) (now dir)) ⌝ }
     requires { ⌜ (slot < length (now dir)) × (n < length (now mem) / 64) × (tag ≤ 2) ⌝ }
-    ensures { λ r. ⌜ Does (readyPlace aesCipher direct (tagNamed tag) n slot (lent hi lo (now (mem .entry)) (now (macs .entry)) (now (cache .entry)) (now (dir .entry)))) (r .ok) (countsIn (r .counts)) (lent hi lo (now (mem .exit)) (now (macs .exit)) (now (cache .exit)) (now (dir .exit))) ⌝ }
+    ensures { λ r. ⌜ Does (readyPlace aesCipher direct (tagNamed tag) n slot
+        (lent hi lo (now (mem .entry)) (now (macs .entry)) (now (cache .entry)) (now (dir .entry)))) (r .ok)
+        (countsIn (r .counts)) (lent hi lo (now (mem .exit)) (now (macs .exit)) (now (cache .exit)) (now (dir .exit)))
+        ⌝ }
 {
     if number::serves(dir[slot], tag, n) {
         place::touch(dir, slot);
@@ -120,7 +125,9 @@ pub fn fetch(
 ) -> Found
     requires { ⌜ Fit (lent hi lo (now mem) (now macs) (now cache) (now dir)) ⌝ }
     requires { ⌜ (fault ≡ 0 → Inside pc 4 (length (now mem))) ⌝ }
-    ensures { λ r. ⌜ Grants (fetchOf fault mode pc) (lent hi lo (now (mem .entry)) (now (macs .entry)) (now (cache .entry)) (now (dir .entry))) (r .failed) (r .number) (countsIn (r .counts)) (lent hi lo (now (mem .exit)) (now (macs .exit)) (now (cache .exit)) (now (dir .exit))) ⌝ }
+    ensures { λ r. ⌜ Grants (fetchOf fault mode pc) (lent hi lo (now (mem .entry)) (now (macs .entry))
+        (now (cache .entry)) (now (dir .entry))) (r .failed) (r .number) (countsIn (r .counts))
+        (lent hi lo (now (mem .exit)) (now (macs .exit)) (now (cache .exit)) (now (dir .exit))) ⌝ }
 {
     if fault != 0 {
         return came(false, 0, slots::none());
@@ -148,8 +155,10 @@ fn touch(
     write: bool,
     v: u64,
 ) -> u64
-    requires { ⌜ (slot < length (now dir)) × (length (now cache) ≡ length (now dir) * 64) × (at + 8 ≤ 64) × (tag ≤ 2) × (n ≤ 1024) ⌝ }
-    ensures { λ r. ⌜ Touches slot at tag n write v r (now (cache .entry)) (now (dir .entry)) (now (cache .exit)) (now (dir .exit)) ⌝ }
+    requires { ⌜ (slot < length (now dir)) × (length (now cache) ≡ length (now dir) * 64) × (at + 8 ≤ 64)
+        × (tag ≤ 2) × (n ≤ 1024) ⌝ }
+    ensures { λ r. ⌜ Touches slot at tag n write v r (now (cache .entry)) (now (dir .entry)) (now (cache .exit))
+        (now (dir .exit)) ⌝ }
 {
     let i = slot * 64 + at;
     let x = words::read_eight(cache, i);
@@ -174,7 +183,9 @@ pub fn access(
     requires { ⌜ Fit (lent hi lo (now mem) (now macs) (now cache) (now dir)) ⌝ }
     requires { ⌜ (q .kind ≡ 1 → Inside (q .address) 8 (length (now mem))) ⌝ }
     requires { ⌜ q .tag ≤ 2 ⌝ }
-    ensures { λ r. ⌜ Obtains (wishOf q) (lent hi lo (now (mem .entry)) (now (macs .entry)) (now (cache .entry)) (now (dir .entry))) (r .failed) (r .number) (countsIn (r .counts)) (now (mem .exit)) (now (macs .exit)) (now (cache .exit)) (now (dir .exit)) ⌝ }
+    ensures { λ r. ⌜ Obtains (wishOf q) (lent hi lo (now (mem .entry)) (now (macs .entry)) (now (cache .entry))
+        (now (dir .entry))) (r .failed) (r .number) (countsIn (r .counts)) (now (mem .exit)) (now (macs .exit))
+        (now (cache .exit)) (now (dir .exit)) ⌝ }
 {
     let kind = q.kind;
     if kind == 2 {

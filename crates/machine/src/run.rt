@@ -34,7 +34,10 @@ pub fn steps(
     requires { ⌜ now t ≡ opcodeTable ⌝ }
     requires { ⌜ (128 ≤ length (now mem)) × (length (now dir) ≤ 64) × (n ≤ 10000) ⌝ }
     requires { ⌜ Fit (lent (q .drkhi) (q .drklo) (now mem) (now macs) (now cache) (now dir)) ⌝ }
-    ensures { λ x. ⌜ Runs n (machineOf (now (r .entry)) q (now (mem .entry)) (now (macs .entry)) (now (cache .entry)) (now (dir .entry))) (x .answer) (x .steps) (countsIn (x .counts)) (machineOf (now (r .exit)) (x .special) (now (mem .exit)) (now (macs .exit)) (now (cache .exit)) (now (dir .exit))) ⌝ }
+    ensures { λ x. ⌜ Runs n (machineOf (now (r .entry)) q (now (mem .entry)) (now (macs .entry)) (now (cache .entry))
+        (now (dir .entry))) (x .answer) (x .steps) (countsIn (x .counts))
+        (machineOf (now (r .exit)) (x .special) (now (mem .exit)) (now (macs .exit)) (now (cache .exit))
+        (now (dir .exit))) ⌝ }
 {
     let mut s = q;
     let mut k = slots::none();
@@ -149,7 +152,10 @@ pub fn run(
 ) -> Outcome
     requires { ⌜ (128 ≤ length (now mem)) × (length (now dir) ≤ 64) × (n ≤ 10000) ⌝ }
     requires { ⌜ Fit (lent (p .special .drkhi) (p .special .drklo) (now mem) (now macs) (now cache) (now dir)) ⌝ }
-    ensures { λ x. ⌜ Runs n (machineOf (p .r) (p .special) (now (mem .entry)) (now (macs .entry)) (now (cache .entry)) (now (dir .entry))) (x .answer) (x .steps) (countsIn (x .counts)) (machineOf (x .processor .r) (x .processor .special) (now (mem .exit)) (now (macs .exit)) (now (cache .exit)) (now (dir .exit))) ⌝ }
+    ensures { λ x. ⌜ Runs n (machineOf (p .r) (p .special) (now (mem .entry)) (now (macs .entry))
+        (now (cache .entry)) (now (dir .entry))) (x .answer) (x .steps) (countsIn (x .counts))
+        (machineOf (x .processor .r) (x .processor .special) (now (mem .exit)) (now (macs .exit)) (now (cache .exit))
+        (now (dir .exit))) ⌝ }
 {
     let t = OPCODES;
     let mut r = p.r;

@@ -12,13 +12,15 @@ use Rattle.cache.proofs.whole.evict_all.Tie as tie
 
 abbrev Inv-loop : tie.InvT-loop
 Inv-loop hi lo mem₀ macs₀ cache₀ dir₀ n k₀ i₀ mem macs cache dir k i =
-    Emptied direct direct-laws n i (lent hi lo mem₀ macs₀ cache₀ dir₀) (lent hi lo mem macs cache dir) (countsIn k)
+    Emptied direct direct-laws n i (lent hi lo mem₀ macs₀ cache₀ dir₀) (lent hi lo mem macs cache dir)
+    (countsIn k)
 
 abbrev μ-loop : tie.MeasureT-loop
 μ-loop hi lo mem₀ macs₀ cache₀ dir₀ n k₀ i₀ mem macs cache dir k i = n - i
 
 loop-holds : tie.Need-loop-holds Inv-loop μ-loop
-loop-holds c = rw (c .none .ensures) (emptied-none direct direct-laws _ (c .before .before .before .before .before .pre))
+loop-holds c = rw (c .none .ensures)
+    (emptied-none direct direct-laws _ (c .before .before .before .before .before .pre))
 
 evict-requires : tie.Need-evict-requires Inv-loop μ-loop
 evict-requires c κs =
@@ -27,17 +29,36 @@ evict-requires c κs =
 
 add-requires : tie.Need-add-requires Inv-loop μ-loop
 add-requires c κs = (
-  small-bounded (c .before .before .before .before .before .before .before .before .before .before .before .before .before .before .loop .i) _ (omega arith) (c .before .before .before .before .before .before .before .before .before .before .before .before .before .before .loop .inv .small),
-  small-bounded 1 _ (omega arith) (evicted-small direct _ _ _ _ (c .before .before .before .before .before .before .before .before .evict .ensures)),
+  small-bounded (c .before .before .before .before .before .before .before .before .before .before .before .before
+      .before .before .loop .i) _ (omega arith)
+      (c .before .before .before .before .before .before .before .before .before .before .before .before .before .before
+      .loop .inv .small),
+  small-bounded 1 _ (omega arith)
+      (evicted-small direct _ _ _ _
+      (c .before .before .before .before .before .before .before .before .evict .ensures)),
 )
 
 add-i : tie.Need-add-i Inv-loop μ-loop
-add-i c = record { fits = omega (arith, c .before .before .before .before .before .before .before .before .before .before .before .before .before .before .loop-test .taken, c .before .before .before .before .before .before .before .before .before .before .before .before .before .before .before .before .before .before .before .before .before .good .1 .1 .1 .1 .1 .0 .0) }
+add-i c = record {
+  fits =
+      omega (
+        arith,
+        c .before .before .before .before .before .before .before .before .before .before .before .before
+            .before .before .loop-test .taken,
+        c .before .before .before .before .before .before .before .before .before .before .before .before .before .before
+            .before .before .before .before .before .before .before .good .1 .1 .1 .1 .1 .0 .0,
+      );
+}
 
 loop-again : tie.Need-loop-again Inv-loop μ-loop
 loop-again c =
     let kept = c .before .before .before .before .before .before .before .before .before .evict .kept .1 .1 in
-    emptied-more direct direct-laws _ _ _ _ _ _ _ _ (c .before .before .before .before .before .before .before .before .before .before .before .before .before .before .loop-test .taken) (c .before .before .before .before .before .before .before .before .before .before .before .before .before .before .before .loop .inv) (c .before .before .before .before .before .before .before .before .before .evict .ensures) (c .add .ensures)
+    emptied-more direct direct-laws _ _ _ _ _ _ _ _
+    (c .before .before .before .before .before .before .before .before .before .before .before .before .before
+    .before .loop-test .taken)
+    (c .before .before .before .before .before .before .before .before .before .before .before .before .before
+    .before .before .loop .inv)
+    (c .before .before .before .before .before .before .before .before .before .evict .ensures) (c .add .ensures)
     (kept .1 .1 .1 .0) (kept .0) (kept .1 .0) (kept .1 .1 .0)
 
 same-length : tie.Need-same-length Inv-loop μ-loop
@@ -56,7 +77,5 @@ returns : tie.Need-returns Inv-loop μ-loop
 returns c = emptied-all direct direct-laws _ _ _ _ _ (c .loop-test .left) (c .before .loop .inv)
 
 pub evict-all-spec : {M : Type 1} → statement M
-evict-all-spec =
-    tie.close
-    (tie.spec Inv-loop μ-loop (λ c κs. search needs) loop-holds evict-requires add-requires add-i
-    (λ c. search needs) loop-again same-length same-length-2 same-length-3 same-length-4 returns)
+evict-all-spec = tie.close (tie.spec Inv-loop μ-loop (λ c κs. search needs) loop-holds evict-requires add-requires
+    add-i (λ c. search needs) loop-again same-length same-length-2 same-length-3 same-length-4 returns)

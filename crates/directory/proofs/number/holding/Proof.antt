@@ -11,7 +11,5 @@ returns-2 : tie.Need-returns-2
 returns-2 c = number-clean _ _ _ (c .before .pre .1) (c .if1 .left)
 
 pub holding-spec : {M : Type 1} → statement M
-holding-spec =
-    tie.close
-    (tie.spec (λ c. search needs) (λ c. search needs) (λ c. search needs) (λ c. search needs) (λ c. search needs)
-    (λ c. search needs) returns returns-2)
+holding-spec = tie.close (tie.spec (λ c. search needs) (λ c. search needs) (λ c. search needs) (λ c. search needs)
+    (λ c. search needs) (λ c. search needs) returns returns-2)

@@ -6,12 +6,12 @@ use Rattle.directory.proofs.number.holds.Statement.{statement}
 use Rattle.directory.proofs.number.holds.Tie as tie
 
 returns : tie.Need-returns
-returns c =
-    let used = sym (c .before .before .used .ensures) ∙ c .before .if1 .taken in
+returns c = let used = sym (c .before .before .used .ensures) ∙ c .before .if1 .taken in
     rw (c .line .ensures) (holds-used _ _ used)
 
 returns-2 : tie.Need-returns-2
 returns-2 c = holds-unused _ _ (sym (c .before .used .ensures) ∙ c .if1 .left)
 
 pub holds-spec : {M : Type 1} → statement M
-holds-spec = tie.close (tie.spec (λ c κs. search needs) (λ c κs. search needs) (λ c. search needs) returns returns-2)
+holds-spec = tie.close (tie.spec (λ c κs. search needs) (λ c κs. search needs) (λ c. search needs) returns
+    returns-2)

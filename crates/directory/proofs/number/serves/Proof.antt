@@ -11,5 +11,5 @@ returns-2 : tie.Need-returns-2
 returns-2 c = rw (c .line .ensures) (serves-same _ _ _ (c .before .if1 .left) (c .before .before .pre .1))
 
 pub serves-spec : {M : Type 1} → statement M
-serves-spec = tie.close
-    (tie.spec (λ c. search needs) (λ c. search needs) returns (λ c κs. search needs) (λ c. search needs) returns-2)
+serves-spec = tie.close (tie.spec (λ c. search needs) (λ c. search needs) returns (λ c κs. search needs)
+    (λ c. search needs) returns-2)

@@ -24,12 +24,14 @@ loop-holds c = (search needs, refl, refl)
 
 returns : tie.Need-returns Inv-loop μ-loop
 returns c =
-    scan-wrong _ _ _ _ _ (omega arith) (c .before .fine .ensures) (not-true _ (c .if1 .taken)) (c .before .before .before .before .loop .inv .1)
+    scan-wrong _ _ _ _ _ (omega arith) (c .before .fine .ensures) (not-true _ (c .if1 .taken))
+    (c .before .before .before .before .loop .inv .1)
 
 loop-again : tie.Need-loop-again Inv-loop μ-loop
 loop-again c = (
   omega arith,
-  scan-more _ _ _ _ _ (omega arith) (c .before .fine .ensures) (not-false _ (c .if1 .left)) (c .before .before .before .before .loop .inv .1),
+  scan-more _ _ _ _ _ (omega arith) (c .before .fine .ensures) (not-false _ (c .if1 .left))
+      (c .before .before .before .before .loop .inv .1),
   refl,
 )
 
@@ -37,7 +39,6 @@ returns-2 : tie.Need-returns-2 Inv-loop μ-loop
 returns-2 c = scan-all _ _ _ _ (omega arith) (c .before .loop .inv .1)
 
 pub all-fine-spec : {M : Type 1} → statement M
-all-fine-spec =
-    tie.close
-    (tie.spec Inv-loop μ-loop (λ c. search needs) loop-holds (λ c. search needs) (λ c. search needs)
-    (λ c. search needs) (λ c κs. search needs) returns (λ c. search needs) (λ c. search needs) loop-again returns-2)
+all-fine-spec = tie.close (tie.spec Inv-loop μ-loop (λ c. search needs) loop-holds (λ c. search needs)
+    (λ c. search needs) (λ c. search needs) (λ c κs. search needs) returns (λ c. search needs) (λ c. search needs)
+    loop-again returns-2)

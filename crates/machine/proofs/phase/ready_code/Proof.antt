@@ -8,30 +8,26 @@ use Rattle.machine.proofs.phase.ready_code.Statement.{statement}
 use Rattle.machine.proofs.phase.ready_code.Tie as tie
 
 serves-requires : tie.Need-serves-requires
-serves-requires c κs = (slot-number _ _ (c .before .before .before .before .before .pre .0) (c .before .before .before .before .before .pre .1 .0), c .before .before .before .before .before .pre .1 .2)
+serves-requires c κs =
+    let at-start = c .before .before .before .before .before in
+    (slot-number _ _ (at-start .pre .0) (at-start .pre .1 .0), at-start .pre .1 .2)
 
 returns : tie.Need-returns
 unfolding direct
-returns c = readies-hit direct _ _ _ _ _ _ (c .none .ensures) (sym (c .before .before .before .before .before .if1 .taken) ∙ c .before .before .before .before .before .before .serves .ensures) (c .before .before .before .touch .ensures)
+returns c =
+    let at-if1 = c .before .before .before .before .before in
+    readies-hit direct _ _ _ _ _ _ (c .none .ensures) (sym (at-if1 .if1 .taken) ∙ at-if1 .before .serves .ensures)
+    (c .before .before .before .touch .ensures)
 
 returns-2 : tie.Need-returns-2
 unfolding direct
-returns-2 c = readies-miss direct _ _ _ _ _ _ _ (sym (c .before .before .before .before .before .before .before .before .before .before .before .before .before .if1 .left) ∙ c .before .before .before .before .before .before .before .before .before .before .before .before .before .before .serves .ensures) (c .before .before .before .before .before .before .before .before .replace .ensures)
+returns-2 c =
+    let at-replace = c .before .before .before .before .before .before .before .before in
+    let at-if1 = at-replace .before .before .before .before .before in
+    readies-miss direct _ _ _ _ _ _ _ (sym (at-if1 .if1 .left) ∙ at-if1 .before .serves .ensures)
+    (at-replace .replace .ensures)
 
 pub ready-code-spec : {M : Type 1} → statement M
-ready-code-spec =
-    tie.close
-    (tie.spec
-    (λ c. search needs)
-    (λ c. search needs)
-    serves-requires
-    (λ c κs. search needs)
-    (λ c κs. search needs)
-    (λ c. search needs)
-    returns
-    (λ c κs. search needs)
-    (λ c. search needs)
-    (λ c. search needs)
-    (λ c. search needs)
-    (λ c. search needs)
-    returns-2)
+ready-code-spec = tie.close (tie.spec (λ c. search needs) (λ c. search needs) serves-requires (λ c κs. search needs)
+    (λ c κs. search needs) (λ c. search needs) returns (λ c κs. search needs) (λ c. search needs)
+    (λ c. search needs) (λ c. search needs) (λ c. search needs) returns-2)

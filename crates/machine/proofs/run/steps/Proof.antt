@@ -23,29 +23,79 @@ loop-holds c = (refl, rw (c .none .ensures) (going-none _ _ (c .before .before .
 
 step-requires : tie.Need-step-requires Inv-loop μ-loop
 step-requires c κs =
-    let turn = c .before .before .before .before .before .before .loop .inv .1 in
-    (c .before .before .before .before .before .before .before .before .before .before .before .before .pre .0, (omega (arith, turn .mem, c .before .before .before .before .before .before .before .before .before .before .before .before .pre .1 .0 .0), turn .fit))
+    let turn = c .before .before .before .before .before .before .loop .inv .1 in (
+      c .before .before .before .before .before .before .before .before .before .before .before .before .pre .0,
+      (
+        omega (
+          arith,
+          turn .mem,
+          c .before .before .before .before .before .before .before .before .before .before .before .before .pre .1 .0
+              .0,
+        ),
+        turn .fit,
+      ),
+    )
 
 add-requires : tie.Need-add-requires Inv-loop μ-loop
 add-requires c κs =
-    let turn = c .before .before .before .before .before .before .before .before .before .before .before .before .before .before .before .before .loop .inv .1 in
-    let small = step-small _ _ _ _ (turn .fit) (omega (arith, turn .dir, c .before .before .before .before .before .before .before .before .before .before .before .before .before .before .before .before .before .before .before .before .before .before .pre .1 .0 .1)) (c .before .before .before .before .before .before .before .before .before .step .ensures) in (
-      small-bounded (c .before .before .before .before .before .before .before .before .before .before .before .before .before .before .before .before .loop .i * 130) _ (omega (arith, c .before .before .before .before .before .before .before .before .before .before .before .before .before .before .before .before .before .before .before .before .before .before .pre .1 .0 .2, turn .within)) (turn .small),
+    let turn = c .before .before .before .before .before .before .before .before .before .before .before .before .before
+    .before .before .before .loop .inv .1 in
+    let small = step-small _ _ _ _ (turn .fit)
+    (omega (
+      arith,
+      turn .dir,
+      c .before .before .before .before .before .before .before .before .before .before .before .before .before
+          .before .before .before .before .before .before .before .before .before .pre .1 .0 .1,
+    ))
+    (c .before .before .before .before .before .before .before .before .before .step .ensures) in (
+      small-bounded (c .before .before .before .before .before .before .before .before .before .before .before .before
+          .before .before .before .before .loop .i * 130) _
+          (omega (
+            arith,
+            c .before .before .before .before .before .before .before .before .before .before .before
+                .before .before .before .before .before .before .before .before .before .before .before .pre .1 .0 .2,
+            turn .within,
+          )) (turn .small),
       small-bounded 130 _ (omega arith) small,
     )
 
 add-i : tie.Need-add-i Inv-loop μ-loop
-add-i c = omega (arith, c .before .before .before .before .before .before .before .before .before .before .before .before .before .before .before .before .before .loop .inv .1 .within, c .before .before .before .before .before .before .before .before .before .before .before .before .before .before .before .before .before .before .before .before .before .before .before .pre .1 .0 .2)
+add-i c = omega (
+  arith,
+  c .before .before .before .before .before .before .before .before .before .before .before
+      .before .before .before .before .before .before .loop .inv .1 .within,
+  c .before .before .before .before .before .before .before .before .before .before .before .before .before .before
+      .before .before .before .before .before .before .before .before .before .pre .1 .0 .2,
+)
 
 loop-less : tie.Need-loop-less Inv-loop μ-loop
-loop-less c = omega (arith, c .before .before .before .before .before .before .before .before .before .before .before .before .before .before .before .before .before .before .before .loop .inv .1 .within, c .before .before .before .before .before .before .before .before .before .before .before .before .before .before .before .before .before .before .if1 .left)
+loop-less c = omega (
+  arith,
+  c .before .before .before .before .before .before .before .before .before .before .before .before .before .before
+      .before .before .before .before .before .loop .inv .1 .within,
+  c .before .before .before .before .before .before .before .before .before .before .before .before .before .before
+      .before .before .before .before .if1 .left,
+)
 
 loop-again : tie.Need-loop-again Inv-loop μ-loop
 loop-again c =
-    let turn = c .before .before .before .before .before .before .before .before .before .before .before .before .before .before .before .before .before .before .before .loop .inv .1 in
-    let kept = c .before .before .before .before .before .before .before .before .before .before .before .before .step .kept .1 .1 .1 in (
-      c .before .before .before .before .before .before .before .before .before .before .before .before .before .before .before .before .before .before .before .loop .inv .0,
-      going-more _ _ _ _ _ _ _ _ _ (omega (arith, turn .within, c .before .before .before .before .before .before .before .before .before .before .before .before .before .before .before .before .before .before .if1 .left)) (c .before .before .before .before .before .before .before .before .before .before .before .before .before .before .before .before .before .before .before .before .before .before .before .before .before .pre .1 .0 .1) turn (c .before .before .before .before .before .before .before .before .before .before .before .before .step .ensures)
+    let turn = c .before .before .before .before .before .before .before .before .before .before .before .before .before
+    .before .before .before .before .before .before .loop .inv .1 in
+    let kept = c .before .before .before .before .before .before .before .before .before .before .before .before .step
+    .kept .1 .1 .1 in (
+      c .before .before .before .before .before .before .before .before .before .before .before .before .before .before
+          .before .before .before .before .before .loop .inv .0,
+      going-more _ _ _ _ _ _ _ _ _
+          (omega (
+            arith,
+            turn .within,
+            c .before .before .before .before .before .before .before .before .before .before .before .before .before
+                .before .before .before .before .before .if1 .left,
+          ))
+          (c .before .before .before .before .before .before .before .before .before .before .before .before .before
+          .before .before .before .before .before .before .before .before .before .before .before .before .pre .1 .0 .1)
+          turn (c .before .before .before .before .before .before .before .before .before .before .before .before .step
+          .ensures)
           (c .before .before .add .ensures) (c .if2 .left) (kept .0) (kept .1 .0) (kept .1 .1 .0) (kept .1 .1 .1 .0),
     )
 
@@ -65,26 +115,46 @@ returns : tie.Need-returns Inv-loop μ-loop
 returns c = rw (c .before .loop .inv .0) (going-all _ _ _ _ _ (c .if1 .taken) (c .before .loop .inv .1))
 
 same-length-5 : tie.Need-same-length-5 Inv-loop μ-loop
-same-length-5 c = c .before .before .before .before .before .before .before .before .before .before .before .before .step .kept .1 .1 .1 .0 ∙ c .before .before .before .before .before .before .before .before .before .before .before .before .before .before .before .before .before .before .before .loop .inv .1 .mem
+same-length-5 c = c .before .before .before .before .before .before .before .before .before .before .before .before
+    .step .kept .1 .1 .1 .0 ∙ c .before .before .before .before .before .before .before .before .before .before
+    .before .before .before .before .before .before .before .before .before .loop .inv .1 .mem
 
 same-length-6 : tie.Need-same-length-6 Inv-loop μ-loop
-same-length-6 c = c .before .before .before .before .before .before .before .before .before .before .before .before .step .kept .1 .1 .1 .1 .0 ∙ c .before .before .before .before .before .before .before .before .before .before .before .before .before .before .before .before .before .before .before .loop .inv .1 .macs
+same-length-6 c = c .before .before .before .before .before .before .before .before .before .before .before .before
+    .step .kept .1 .1 .1 .1 .0
+    ∙ c .before .before .before .before .before .before .before .before .before .before .before .before .before
+    .before .before .before .before .before .before .loop .inv .1 .macs
 
 same-length-7 : tie.Need-same-length-7 Inv-loop μ-loop
-same-length-7 c = c .before .before .before .before .before .before .before .before .before .before .before .before .step .kept .1 .1 .1 .1 .1 .0 ∙ c .before .before .before .before .before .before .before .before .before .before .before .before .before .before .before .before .before .before .before .loop .inv .1 .cache
+same-length-7 c = c .before .before .before .before .before .before .before .before .before .before .before .before
+    .step .kept .1 .1 .1 .1 .1 .0
+    ∙ c .before .before .before .before .before .before .before .before .before .before .before .before .before
+    .before .before .before .before .before .before .loop .inv .1 .cache
 
 same-length-8 : tie.Need-same-length-8 Inv-loop μ-loop
-same-length-8 c = c .before .before .before .before .before .before .before .before .before .before .before .before .step .kept .1 .1 .1 .1 .1 .1 .0 ∙ c .before .before .before .before .before .before .before .before .before .before .before .before .before .before .before .before .before .before .before .loop .inv .1 .dir
+same-length-8 c = c .before .before .before .before .before .before .before .before .before .before .before .before
+    .step .kept .1 .1 .1 .1 .1 .1 .0
+    ∙ c .before .before .before .before .before .before .before .before .before .before .before .before .before
+    .before .before .before .before .before .before .loop .inv .1 .dir
 
 returns-2 : tie.Need-returns-2 Inv-loop μ-loop
 returns-2 c =
-    let turn = c .before .before .before .before .before .before .before .before .before .before .before .before .before .before .before .before .before .before .before .loop .inv .1 in
-    going-stops _ _ _ _ _ _ _ _ _ (omega (arith, turn .within, c .before .before .before .before .before .before .before .before .before .before .before .before .before .before .before .before .before .before .if1 .left)) (c .before .before .before .before .before .before .before .before .before .before .before .before .before .before .before .before .before .before .before .before .before .before .before .before .before .pre .1 .0 .1) turn (c .before .before .before .before .before .before .before .before .before .before .before .before .step .ensures)
+    let turn = c .before .before .before .before .before .before .before .before .before .before .before .before .before
+    .before .before .before .before .before .before .loop .inv .1 in
+    going-stops _ _ _ _ _ _ _ _ _
+    (omega (
+      arith,
+      turn .within,
+      c .before .before .before .before .before .before .before .before .before .before .before .before .before
+          .before .before .before .before .before .if1 .left,
+    ))
+    (c .before .before .before .before .before .before .before .before .before .before .before .before .before
+    .before .before .before .before .before .before .before .before .before .before .before .before .pre .1 .0 .1)
+    turn (c .before .before .before .before .before .before .before .before .before .before .before .before .step
+    .ensures)
     (c .before .before .add .ensures) (c .if2 .taken)
 
 pub steps-spec : {M : Type 1} → statement M
-steps-spec =
-    tie.close
-    (tie.spec Inv-loop μ-loop (λ c κs. search needs) loop-holds step-requires add-requires add-i loop-less loop-again
-    same-length same-length-2 same-length-3 same-length-4 returns same-length-5 same-length-6 same-length-7
-    same-length-8 returns-2)
+steps-spec = tie.close (tie.spec Inv-loop μ-loop (λ c κs. search needs) loop-holds step-requires add-requires add-i
+    loop-less loop-again same-length same-length-2 same-length-3 same-length-4 returns same-length-5 same-length-6
+    same-length-7 same-length-8 returns-2)
