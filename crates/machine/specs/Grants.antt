@@ -3,11 +3,12 @@ use Prim.Native.Nat.{ℕ, _+_, _*_, _/_, _%_, _<_, _≤_}
 use mathlib.Core.Path.{_≡_}
 use mathlib.Core.Bool.{Bool}
 use mathlib.Core.List.{List}
-use lib.ListN.{set}
 use Rattle.lists.specs.Parts.{partAt, putAt}
 use Rattle.lists.specs.Words.{little, littleBytes}
 use Rattle.lists.specs.If.{if}
+use Rattle.model.specs.Tags.{tagNamed}
 use Rattle.model.specs.Log.{Counts, countsOf}
+use Rattle.model.specs.Placement.{holding}
 use Rattle.model.specs.Requests.{perform}
 use Rattle.model.specs.Cached.{Cached, cached}
 use Rattle.directory.specs.Direct.{direct}
@@ -40,7 +41,8 @@ pub record Inside (a k M : ℕ) : Type 0 where
   pub place : a % 64 + k ≤ 64
 
 -- the word at a place of a slot is read, and where the test says so written, which makes the slot dirty
-pub record Touches (slot at tag n : ℕ) (write : Bool) (v r : ℕ) (cache dir cache′ dir′ : List ℕ) : Type 0 where
-  pub number : r ≡ little (partAt (slot * 64 + at) 8 cache)
-  pub bytes : cache′ ≡ if write (putAt (slot * 64 + at) 8 (littleBytes 8 v) cache) cache
-  pub marks : dir′ ≡ if write (set dir slot (9 + 2 * tag + 16 * n)) dir
+pub record Touches (slot at tag n : ℕ) (write : Bool) (v r : ℕ) (cache dir cache′ dir′ : List ℕ) : Type 0
+  where
+    pub number : r ≡ little (partAt (slot * 64 + at) 8 cache)
+    pub bytes : cache′ ≡ if write (putAt (slot * 64 + at) 8 (littleBytes 8 v) cache) cache
+    pub marks : dir′ ≡ if write (direct .put dir slot (holding n (tagNamed tag) true)) dir
