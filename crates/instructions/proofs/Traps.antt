@@ -66,7 +66,8 @@ pub restart-keeps-srh : (B : Board) (r : Processor) → reset B r .cem .srh ≡ 
 unfolding reset
 restart-keeps-srh B r = refl
 
-pub restart-clears-all-else : (B : Board) (r : Processor) (srh : List ℕ) → withSrh srh (reset B r) ≡ withSrh srh (blank B)
+pub restart-clears-all-else : (B : Board) (r : Processor) (srh : List ℕ)
+    → withSrh srh (reset B r) ≡ withSrh srh (blank B)
 unfolding reset
 restart-clears-all-else B r srh = refl
 
