@@ -1,5 +1,5 @@
 -- Traps met before, as small theorems: R0 is not hidden and a resume works; end_cem at offset 44 does not fall into
--- the MAC; a run goes on.
+-- the MAC; a restart keeps the SRH; a run goes on.
 use Prim.Native.Nat.{ℕ, suc, _+_, _*_, _/_, _%_}
 use mathlib.Core.Path.{_≡_, refl, ap₂}
 use mathlib.Core.Bool.{Bool, true, false, _&&_, _||_}
@@ -11,7 +11,7 @@ use Rattle.lists.proofs.ByteLaws.{same-refl}
 use Rattle.lists.proofs.Xor.{xoredBehind-undo}
 use Rattle.model.specs.Cipher.{Cipher}
 use Rattle.instructions.specs.Board.{Board, modulus}
-use Rattle.instructions.specs.Record.{Processor, active}
+use Rattle.instructions.specs.Record.{Processor, withSrh, active, blank, reset}
 use Rattle.instructions.specs.Fields.{opcode}
 use Rattle.instructions.specs.Operations.{nextMode, taken, behind, nextPc, executed}
 use Rattle.instructions.specs.Suspend.{hashOf, hidden, suspended, entered, resumes, restored, hashRight, returned}
@@ -60,6 +60,16 @@ unfolding executed nextPc taken behind active nextMode
 end-at-44 B c key r w loaded e a p =
     let next = (r .pc / 64 * 64 + 64) % modulus B in
     rw e (ap₂ (λ (t : Bool) (o : ℕ). if ((t || false) && leb 44 o) next ((r .pc + 4) % modulus B)) a p)
+
+-- a restart keeps the SRH, and all else is as in the blank record
+pub restart-keeps-srh : (B : Board) (r : Processor) → reset B r .cem .srh ≡ r .cem .srh
+unfolding reset
+restart-keeps-srh B r = refl
+
+pub restart-clears-all-else : (B : Board) (r : Processor) (srh : List ℕ)
+    → withSrh srh (reset B r) ≡ withSrh srh (blank B)
+unfolding reset
+restart-clears-all-else B r srh = refl
 
 -- a run goes on with the next instruction after each step without fault, and stops behind a step that faults
 module _ {S : Type 0} (B : Board) (c : Cipher) (H : Setup S) (k i : ℕ) (m : Machine S) where
