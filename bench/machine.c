@@ -29,8 +29,9 @@ struct work {
     uint64_t n;
     unsigned calls;
     unsigned units;
-    int emptied; /* every slot is emptied before each call, and the record put back */
-    int full;    /* lines that the program does not touch are in all other slots */
+    uint32_t slots;
+    uint32_t held; /* so many slots hold lines at the start that the program does not touch */
+    int emptied;   /* every slot is emptied before each call, and the record put back */
 };
 
 static const uint64_t drk[2] = {0x0123456789abcdef, 0xfedcba9876543210};
@@ -54,12 +55,20 @@ static const uint32_t secure_loop[PROGRAM] = LOOP(41, 42);
         XOR(6, 5, 2), WORD(42, 6, 10, 64 * (j) + 16), ADDI(7, 7, 1), ADD(8, 7, 6), XOR(9, 8, 1), ADDI(11, 9, -1)
 static const uint32_t module[PROGRAM] = {PART(0, 1), PART(1, 2), PART(2, 3)};
 
+/* Each call of a round with n = 0 or 1 is the entry with its checks, and at most one instruction. */
+#define ENTRY(what, n, slots, held) {what, plain_loop, NORMAL, n, 100, 100, slots, held, 0}
 static const struct work works[] = {
-    {"a warm step, normal mode", plain_loop, NORMAL, 10000, 1, 10000, 0, 0},
-    {"a warm step, active mode", secure_loop, ACTIVE, 10000, 1, 10000, 0, 0},
-    {"a cold run: 36 steps, 7 checked fills", module, ACTIVE, 36, 20, 20, 1, 0},
-    {"a call with n = 1, 3 of 64 slots in use", plain_loop, NORMAL, 1, 100, 100, 0, 0},
-    {"a call with n = 1, 64 of 64 slots in use", plain_loop, NORMAL, 1, 100, 100, 0, 1},
+    {"a warm step, normal mode", plain_loop, NORMAL, 10000, 1, 10000, 64, 0, 0},
+    {"a warm step, active mode", secure_loop, ACTIVE, 10000, 1, 10000, 64, 0, 0},
+    {"a cold run: 36 steps, 7 checked fills", module, ACTIVE, 36, 20, 20, 64, 0, 1},
+    ENTRY("a call with n = 0, 3 of 16 slots in use", 0, 16, 3),
+    ENTRY("a call with n = 0, 16 of 16 slots in use", 0, 16, 16),
+    ENTRY("a call with n = 0, 3 of 64 slots in use", 0, 64, 3),
+    ENTRY("a call with n = 0, 64 of 64 slots in use", 0, 64, 64),
+    ENTRY("a call with n = 1, 3 of 16 slots in use", 1, 16, 0),
+    ENTRY("a call with n = 1, 16 of 16 slots in use", 1, 16, 16),
+    ENTRY("a call with n = 1, 3 of 64 slots in use", 1, 64, 0),
+    ENTRY("a call with n = 1, 64 of 64 slots in use", 1, 64, 64),
 };
 
 /* Twelve instructions to a line from CODE on and data from DATA on, signed and sealed where the mode is active. */
@@ -75,8 +84,8 @@ static void fill_board(struct board *b, const struct work *w)
         code_mac(drk, a, b->memory + a, b->memory + a + 48);
     for (uint64_t a = DATA; a < MEMORY && w->mode == ACTIVE; a += LINE_BYTES)
         seal_line(drk, a, b->memory + a, b->memory + a, b->macs + a / 4);
-    for (uint32_t i = 0; i < SLOTS && w->full; i++)
-        b->directory[i] = 1 | (i + SLOTS * (1 + i % 15)) << 4;
+    for (uint32_t i = 0; i < w->held; i++)
+        b->directory[i] = 1 | (i + w->slots * (2 + i % 13)) << 4;
 }
 
 static struct hq_processor house_at_start(const struct work *w)
@@ -102,7 +111,8 @@ static void house_round(struct board *b, const struct work *w)
             memset(b->directory, 0, sizeof b->directory);
             b->house = house_at_start(w);
         }
-        x = hq_run(&b->house, b->memory, MEMORY, b->macs, MEMORY / 4, b->cache, sizeof b->cache, b->directory, SLOTS, w->n);
+        x = hq_run(&b->house, b->memory, MEMORY, b->macs, MEMORY / 4, b->cache, w->slots * LINE_BYTES, b->directory, w->slots,
+                   w->n);
     }
     b->out = (struct outcome){x.answer, x.steps, {x.counts.filled, x.counts.written, x.counts.checked, x.counts.made}};
 }
@@ -110,7 +120,7 @@ static void house_round(struct board *b, const struct work *w)
 /* The calls of a round by the second model. */
 static void model_round(struct board *b, const struct work *w)
 {
-    struct lent lent = {b->memory, MEMORY, b->macs, MEMORY / 4, b->cache, sizeof b->cache, b->directory, SLOTS};
+    struct lent lent = {b->memory, MEMORY, b->macs, MEMORY / 4, b->cache, w->slots * LINE_BYTES, b->directory, w->slots};
     for (unsigned i = 0; i < w->calls; i++) {
         if (w->emptied) {
             memset(b->directory, 0, sizeof b->directory);

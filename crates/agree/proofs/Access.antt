@@ -1,4 +1,5 @@
--- An access, by a hit or after an eviction and a fill, with or without a change, answers alike in both memories and keeps the agreement.
+-- An access, by a hit or after an eviction and a fill, with or without a change, answers alike in both memories and
+-- keeps the agreement.
 use Prim.Native.Nat.{ℕ, _<_}
 use mathlib.Core.Path.{_≡_, refl, sym, ap, _∙_}
 use mathlib.Core.Bool.{Bool, true, false, _&&_, false≢true}
@@ -28,7 +29,8 @@ use Rattle.agree.proofs.Evict.{body-sized, evict-agrees, evict-frees}
 use Rattle.agree.proofs.Fill.{Ready, fill-ready}
 
 -- what is signed does not depend on a MAC that itself came from signing, or that stands as it was
-signed-again : (c : Cipher) (tag : Tag) (key : List ℕ) (n : ℕ) (l k m h : List ℕ) (d : Bool) → m ≡ if d (signed c tag key n k h) h → signed c tag key n l m ≡ signed c tag key n l h
+signed-again : (c : Cipher) (tag : Tag) (key : List ℕ) (n : ℕ) (l k m h : List ℕ) (d : Bool)
+    → m ≡ if d (signed c tag key n k h) h → signed c tag key n l m ≡ signed c tag key n l h
 unfolding signed
 signed-again c noTag key n l k m h true e = e
 signed-again c noTag key n l k m h false e = e
@@ -38,7 +40,8 @@ signed-again c secureData key n l k m h d e = refl
 
 module _ (c : Cipher) (CL : CipherLaws c) (P : Placement) (L : PlacementLaws P) (N C : ℕ) where
   -- using a place keeps the agreement
-  touch-agrees : (u : Uncached) (s : Cached) (p : ℕ) → Agree c P L N C u s → Good P L N C (hitPlace P p s .state) → Agree c P L N C u (hitPlace P p s .state)
+  touch-agrees : (u : Uncached) (s : Cached) (p : ℕ) → Agree c P L N C u s → Good P L N C (hitPlace P p s .state)
+      → Agree c P L N C u (hitPlace P p s .state)
   unfolding hitPlace
   touch-agrees u s p A g =
       record {
@@ -48,16 +51,22 @@ module _ (c : Cipher) (CL : CipherLaws c) (P : Placement) (L : PlacementLaws P) 
         plainMacs = A .plainMacs;
         bytes = A .bytes;
         good = g;
-        held = λ q hq w. rw (L .touch-look (s .dir) p q) (A .held q (rw (L .touch-length (s .dir) p) at hq) (rw (L .touch-look (s .dir) p q) at w));
+        held = λ q hq w. rw (L .touch-look (s .dir) p q) (A .held q (rw (L .touch-length (s .dir) p) at hq)
+            (rw (L .touch-look (s .dir) p q) at w));
         free =
             λ n hn f.
             let g : Free P (s .dir) n =
-            record { nowhere = λ q hq w z. f .nowhere q (rw (L .touch-length (s .dir) p) hq) (rw (L .touch-look (s .dir) p q) w) (rw (L .touch-look (s .dir) p q) z) } in
+            record {
+              nowhere = λ q hq w z. f .nowhere q (rw (L .touch-length (s .dir) p) hq)
+                  (rw (L .touch-look (s .dir) p q) w) (rw (L .touch-look (s .dir) p q) z);
+            } in
             record { lines = A .free n hn g .lines; macs = A .free n hn g .macs };
       }
 
   -- a slot that serves is ready
-  hit-ready : (u : Uncached) (s : Cached) (tag : Tag) (n p : ℕ) → Agree c P L N C u s → p < length (s .dir) → serves (P .look (s .dir) p) tag n ≡ true → Placed c CL P L N C n p (hitPlace P p s .state) → Ready c CL P L N C u tag n p true (hitPlace P p s .state)
+  hit-ready : (u : Uncached) (s : Cached) (tag : Tag) (n p : ℕ) → Agree c P L N C u s → p < length (s .dir)
+      → serves (P .look (s .dir) p) tag n ≡ true → Placed c CL P L N C n p (hitPlace P p s .state)
+      → Ready c CL P L N C u tag n p true (hitPlace P p s .state)
   unfolding hitPlace holding
   hit-ready u s tag n p A hp h Q =
       let e : P .look (s .dir) p ≡ holding n tag (P .look (s .dir) p .dirty) = serving (P .look (s .dir) p) tag n h in
@@ -72,7 +81,9 @@ module _ (c : Cipher) (CL : CipherLaws c) (P : Placement) (L : PlacementLaws P) 
       }
 
   -- a line is made ready at the place chosen for it
-  pub ready : (u : Uncached) (s : Cached) (tag : Tag) (n p : ℕ) → Agree c P L N C u s → n < N → P .choose (s .dir) n ≡ p → Ready c CL P L N C u tag n p (readyPlace c P tag n p s .ok) (readyPlace c P tag n p s .state)
+  pub ready : (u : Uncached) (s : Cached) (tag : Tag) (n p : ℕ) → Agree c P L N C u s → n < N
+      → P .choose (s .dir) n ≡ p → Ready c CL P L N C u tag n p (readyPlace c P tag n p s .ok)
+      (readyPlace c P tag n p s .state)
   unfolding readyPlace thenDo hitPlace
   ready u s tag n p A hn e =
       let Q = chosen-placed c CL P L N C s n p (A .good) hn e in
@@ -81,12 +92,15 @@ module _ (c : Cipher) (CL : CipherLaws c) (P : Placement) (L : PlacementLaws P) 
       (λ h. rw h (hit-ready u s tag n p A hp h (hit-placed c CL P L N C s n p Q)))
       (λ h.
       rw h
-      (fill-ready c CL P L N C u (evictPlace c P p s .state) tag n p (evict-agrees c CL P L N C u s p A hp) (evict-placed c CL P L N C s n p Q) hn
+      (fill-ready c CL P L N C u (evictPlace c P p s .state) tag n p (evict-agrees c CL P L N C u s p A hp)
+      (evict-placed c CL P L N C s n p Q) hn
       (evict-here c CL P L N C s p hp) (evict-frees c CL P L N C s n p (A .good .orderly) hp e)))
 
   -- a change of a held line, in the slot here and in memory there
-  module _ (u : Uncached) (s : Cached) (tag : Tag) (n p : ℕ) (dirty : Bool) (b : List ℕ) (A : Agree c P L N C u s) (hp : p < length (s .dir)) (hn : n < N)
-      (e : P .look (s .dir) p ≡ holding n tag dirty) (g : Good P L N C (writePlace P tag n p true (λ l. b) s)) (t : tag ≡ secureInstruction → ⊥) (z : Sized 64 b) where
+  module _ (u : Uncached) (s : Cached) (tag : Tag) (n p : ℕ) (dirty : Bool) (b : List ℕ) (A : Agree c P L N C u s)
+      (hp : p < length (s .dir)) (hn : n < N)
+      (e : P .look (s .dir) p ≡ holding n tag dirty) (g : Good P L N C (writePlace P tag n p true (λ l. b) s))
+      (t : tag ≡ secureInstruction → ⊥) (z : Sized 64 b) where
     abbrev line : List ℕ
     line = stored c tag (s .key) n b
 
@@ -97,13 +111,21 @@ module _ (c : Cipher) (CL : CipherLaws c) (P : Placement) (L : PlacementLaws P) 
     written = record { key = s .key; mem = putLine n line (u .mem); macs = putMac n mac (u .macs) }
 
     abbrev changed : Cached
-    changed = record { key = s .key; mem = s .mem; macs = s .macs; cache = putLine p b (s .cache); dir = P .put (s .dir) p (holding n tag true) }
+    changed = record {
+      key = s .key;
+      mem = s .mem;
+      macs = s .macs;
+      cache = putLine p b (s .cache);
+      dir =
+          P .put (s .dir) p (holding n tag true);
+    }
 
     line-fits : Sized 64 line
     line-fits = stored-sized c CL (s .key) (A .key) n tag b z
 
     mac-fits : length mac ≡ 16
-    mac-fits = signed-length c CL (s .key) n tag line (macAt n (u .macs)) (line-fits .size) (mac-length N n (u .macs) (A .plainMacs) hn)
+    mac-fits = signed-length c CL (s .key) n tag line (macAt n (u .macs)) (line-fits .size)
+        (mac-length N n (u .macs) (A .plainMacs) hn)
 
     used : P .look (s .dir) p .used ≡ true
     unfolding holding
@@ -118,15 +140,20 @@ module _ (c : Cipher) (CL : CipherLaws c) (P : Placement) (L : PlacementLaws P) 
     unfolding holding
     one-mac =
         let h : HeldAt c (holding n tag dirty) p u s = rw e at (A .held p hp used) in
-        signed-again c tag (s .key) n line (stored c tag (s .key) n (lineAt p (s .cache))) (macAt n (u .macs)) (macAt n (s .macs)) dirty (h .macs)
+        signed-again c tag (s .key) n line (stored c tag (s .key) n (lineAt p (s .cache))) (macAt n (u .macs))
+        (macAt n (s .macs)) dirty (h .macs)
 
     write-agrees : Agree c P L N C written changed
     unfolding lineAt macAt putLine putMac holding writePlace
     write-agrees =
-        let put : P .look (P .put (s .dir) p (holding n tag true)) p ≡ holding n tag true = L .put-here (s .dir) n p tag true (A .good .orderly) hp hn in
-        let here : lineAt p (changed .cache) ≡ b = nth-put-here 64 (length (s .dir)) (s .cache) (A .good .cache) true p b hp (z .size) in
-        let atHome : lineAt n (written .mem) ≡ line = nth-put-here 64 N (u .mem) (A .plainMem .size) true n line hn (line-fits .size) in
-        let atMacs : macAt n (written .macs) ≡ mac = nth-put-here 16 N (u .macs) (A .plainMacs) true n mac hn mac-fits in
+        let put : P .look (P .put (s .dir) p (holding n tag true)) p ≡ holding n tag true =
+        L .put-here (s .dir) n p tag true (A .good .orderly) hp hn in
+        let here : lineAt p (changed .cache) ≡ b = nth-put-here 64 (length (s .dir)) (s .cache) (A .good .cache) true
+        p b hp (z .size) in
+        let atHome : lineAt n (written .mem) ≡ line = nth-put-here 64 N (u .mem) (A .plainMem .size) true n line hn
+        (line-fits .size) in
+        let atMacs : macAt n (written .macs) ≡ mac = nth-put-here 16 N (u .macs) (A .plainMacs) true n mac hn mac-fits
+        in
         update-agrees c P L N C n p u written s changed A hp
         (record {
           occupant = λ w. named;
@@ -161,8 +188,10 @@ module _ (c : Cipher) (CL : CipherLaws c) (P : Placement) (L : PlacementLaws P) 
         })
 
   -- once the line is ready, the reply and the change are alike
-  module _ (u : Uncached) (t : Cached) (tag : Tag) (n p : ℕ) (ok write : Bool) (change : List ℕ → List ℕ) (R : Ready c CL P L N C u tag n p ok t) (hn : n < N)
-      (k : write ≡ true → tag ≡ secureInstruction → ⊥) (lines : (l : List ℕ) → Sized 64 l → Sized 64 (change l)) where
+  module _ (u : Uncached) (t : Cached) (tag : Tag) (n p : ℕ) (ok write : Bool) (change : List ℕ → List ℕ)
+      (R : Ready c CL P L N C u tag n p ok t) (hn : n < N)
+      (k : write ≡ true → tag ≡ secureInstruction → ⊥) (lines : (l : List ℕ) → Sized 64 l
+      → Sized 64 (change l)) where
     -- where the check passes, both see the same bytes
     viewed : ok ≡ true → seen c tag (u .key) n (lineAt n (u .mem)) ≡ lineAt p (t .cache)
     unfolding holding
@@ -176,7 +205,8 @@ module _ (c : Cipher) (CL : CipherLaws c) (P : Placement) (L : PlacementLaws P) 
     unfolding uncachedHandle
     reply-alike = by-test ok (λ h. rw (← R .told, h) (ap some (viewed h))) (λ h. rw (← R .told, h))
 
-    pub state-alike : Agree c P L N C (uncachedHandle c (access tag n write change) u .state) (writePlace P tag n p (ok && write) change t)
+    pub state-alike : Agree c P L N C (uncachedHandle c (access tag n write change) u .state)
+        (writePlace P tag n p (ok && write) change t)
     unfolding uncachedHandle writePlace holding
     state-alike =
         rw (← R .told)
@@ -185,7 +215,8 @@ module _ (c : Cipher) (CL : CipherLaws c) (P : Placement) (L : PlacementLaws P) 
         by-test write
         (λ v.
         let b = change (lineAt p (t .cache)) in
-        let z : Sized 64 b = lines (lineAt p (t .cache)) (body-sized c CL P L N C u t p (R .agrees) (R .placed .place) (ap (λ (x : Entry). x .used) (R .entry h .1))) in
+        let z : Sized 64 b = lines (lineAt p (t .cache)) (body-sized c CL P L N C u t p (R .agrees) (R .placed .place)
+        (ap (λ (x : Entry). x .used) (R .entry h .1))) in
         rw (h, v, viewed h, R .agrees .keys)
         (write-agrees u t tag n p (R .entry h .0) b (R .agrees) (R .placed .place) hn (R .entry h .1)
         (write-good c CL P L N C t tag n p true (λ l. b) hn (λ q. k v) (λ l q. z .size) (R .placed)) (k v) z))

@@ -23,26 +23,31 @@ use Rattle.agree.proofs.Evict.{evict-agrees, evict-frees}
 
 module _ (c : Cipher) (CL : CipherLaws c) (P : Placement) (L : PlacementLaws P) (N C : ℕ) where
   -- a line that its place does not hold is held nowhere
-  free-unless : (d : List ℕ) (n : ℕ) → L .Orderly N d → holds (P .look d (P .choose d n)) n ≡ false → Free P d n
+  free-unless : (d : List ℕ) (n : ℕ) → L .Orderly N d → holds (P .look d (P .choose d n)) n ≡ false
+      → Free P d n
   unfolding holds
   free-unless d n o h =
       record {
         nowhere =
             λ q hq w z.
             let a : P .choose d n ≡ q = ap (P .choose d) (sym z) ∙ L .held-chosen d q o hq w in
-            let b : (P .look d q .used && eqb (P .look d q .line) n) ≡ false = subst (λ (r : ℕ). (P .look d r .used && eqb (P .look d r .line) n) ≡ false) a h in
+            let b : (P .look d q .used && eqb (P .look d q .line) n) ≡ false =
+            subst (λ (r : ℕ). (P .look d r .used && eqb (P .look d r .line) n) ≡ false) a h in
             false≢true (sym b ∙ rw (w, eq-eqb (P .look d q .line) n z));
       }
 
   -- evicting a line keeps the agreement, and then no place holds it
-  pub drop-agrees : (u : Uncached) (s : Cached) (n : ℕ) → n < N → Agree c P L N C u s → Agree c P L N C u (evictLine c P n s .state)
+  pub drop-agrees : (u : Uncached) (s : Cached) (n : ℕ) → n < N → Agree c P L N C u s
+      → Agree c P L N C u (evictLine c P n s .state)
   unfolding evictLine
   drop-agrees u s n hn A =
       by-test (holds (P .look (s .dir) (P .choose (s .dir) n)) n)
-      (λ h. rw h (evict-agrees c CL P L N C u s (P .choose (s .dir) n) A (L .choose-place (s .dir) n (A .good .orderly) hn)))
+      (λ h. rw h (evict-agrees c CL P L N C u s (P .choose (s .dir) n) A
+      (L .choose-place (s .dir) n (A .good .orderly) hn)))
       (λ h. rw h A)
 
-  pub drop-frees : (s : Cached) (n : ℕ) → n < N → L .Orderly N (s .dir) → Free P (evictLine c P n s .state .dir) n
+  pub drop-frees : (s : Cached) (n : ℕ) → n < N → L .Orderly N (s .dir) → Free P (evictLine c P n s .state .dir)
+      n
   unfolding evictLine
   drop-frees s n hn o =
       by-test (holds (P .look (s .dir) (P .choose (s .dir) n)) n)
@@ -53,7 +58,12 @@ module _ (c : Cipher) (CL : CipherLaws c) (P : Placement) (L : PlacementLaws P) 
   module _ (u : Uncached) (s : Cached) (n : ℕ) (hn : n < N) (A : Agree c P L N C u s) (f : Free P (s .dir) n)
       (w v : Bool) (x y : List ℕ) (zx : Sized 64 x) (zy : length y ≡ 16) where
     abbrev plain : Uncached
-    plain = record { key = u .key; mem = if w (putLine n x (u .mem)) (u .mem); macs = if v (putMac n y (u .macs)) (u .macs) }
+    plain = record {
+      key = u .key;
+      mem = if w (putLine n x (u .mem)) (u .mem);
+      macs =
+          if v (putMac n y (u .macs)) (u .macs);
+    }
 
     abbrev after : Cached
     after =
@@ -105,7 +115,8 @@ module _ (c : Cipher) (CL : CipherLaws c) (P : Placement) (L : PlacementLaws P) 
               (record {
                 lines =
                     nth-put-here 64 N (u .mem) (A .plainMem .size) w n x hn (zx .size)
-                    ∙ (rw (A .free n hn f .lines) (sym (nth-put-here 64 N (s .mem) (A .good .mem) w n x hn (zx .size))));
+                    ∙ (rw (A .free n hn f .lines)
+                    (sym (nth-put-here 64 N (s .mem) (A .good .mem) w n x hn (zx .size))));
                 macs =
                     nth-put-here 16 N (u .macs) (A .plainMacs) v n y hn zy
                     ∙ (rw (A .free n hn f .macs) (sym (nth-put-here 16 N (s .macs) (A .good .macs) v n y hn zy)));
@@ -114,7 +125,8 @@ module _ (c : Cipher) (CL : CipherLaws c) (P : Placement) (L : PlacementLaws P) 
               record {
                 lines =
                     nth-put-other 64 N (u .mem) (A .plainMem .size) w i n x hn (zx .size) a
-                    ∙ (A .free i hi g .lines ∙ sym (nth-put-other 64 N (s .mem) (A .good .mem) w i n x hn (zx .size) a));
+                    ∙ (A .free i hi g .lines ∙ sym (nth-put-other 64 N (s .mem) (A .good .mem) w i n x hn (zx .size)
+                    a));
                 macs =
                     nth-put-other 16 N (u .macs) (A .plainMacs) v i n y hn zy a
                     ∙ (A .free i hi g .macs ∙ sym (nth-put-other 16 N (s .macs) (A .good .macs) v i n y hn zy a));

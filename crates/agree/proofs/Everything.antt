@@ -15,7 +15,8 @@ use Rattle.model.specs.Lines.{lineAt, macAt}
 use Rattle.model.specs.Placement.{Placement}
 use Rattle.model.specs.PlacementLaws.{PlacementLaws}
 use Rattle.model.specs.Uncached.{Uncached}
-use Rattle.model.specs.Cached.{Cached, thenDo, evictPlace, evictFrom, evictAll, losePlace, loseFrom, loseAll, asItStands}
+use Rattle.model.specs.Cached.{Cached, thenDo, evictPlace, evictFrom, evictAll, losePlace, loseFrom, loseAll}
+use Rattle.model.specs.Cached.{asItStands}
 use Rattle.keeps.specs.Good.{Good}
 use Rattle.keeps.proofs.Evict.{evict-length, evict-here, evict-other}
 use Rattle.keeps.proofs.Requests.{lose-good, lose-length}
@@ -28,7 +29,9 @@ module _ (c : Cipher) (CL : CipherLaws c) (P : Placement) (L : PlacementLaws P) 
     none : (p : ℕ) → p < m → p < length d → P .look d p .used ≡ false
 
   -- one more place was emptied, and the others are as they were
-  one-more : (p : ℕ) (d d′ : List ℕ) → EmptyBelow p d → length d′ ≡ length d → (p < length d → P .look d′ p .used ≡ false) → ((q : ℕ) → q ≢ p → P .look d′ q ≡ P .look d q) → EmptyBelow (p + 1) d′
+  one-more : (p : ℕ) (d d′ : List ℕ) → EmptyBelow p d → length d′ ≡ length d
+      → (p < length d → P .look d′ p .used ≡ false)
+      → ((q : ℕ) → q ≢ p → P .look d′ q ≡ P .look d q) → EmptyBelow (p + 1) d′
   one-more p d d′ E e h o =
       record {
         none =
@@ -38,21 +41,25 @@ module _ (c : Cipher) (CL : CipherLaws c) (P : Placement) (L : PlacementLaws P) 
             (λ z. rw (o q z) (E .none q (omega arith) (rw e at b)));
       }
 
-  flush-agrees : (k p : ℕ) (u : Uncached) (s : Cached) → p + k ≡ length (s .dir) → Agree c P L N C u s → Agree c P L N C u (evictFrom c P k p s .state)
+  flush-agrees : (k p : ℕ) (u : Uncached) (s : Cached) → p + k ≡ length (s .dir) → Agree c P L N C u s
+      → Agree c P L N C u (evictFrom c P k p s .state)
   unfolding evictFrom thenDo
   flush-agrees zero p u s e A = A
   flush-agrees (suc k) p u s e A =
-      flush-agrees k (p + 1) u (evictPlace c P p s .state) (rw (evict-length c CL P L N C s p) (omega arith)) (evict-agrees c CL P L N C u s p A (omega arith))
+      flush-agrees k (p + 1) u (evictPlace c P p s .state) (rw (evict-length c CL P L N C s p) (omega arith))
+      (evict-agrees c CL P L N C u s p A (omega arith))
 
   all-of-them : (p : ℕ) (d : List ℕ) → p ≡ length d → EmptyBelow p d → AllEmpty P d
   all-of-them p d e E = record { unused = λ q h. E .none q (omega arith) h }
 
-  flush-empties : (k p : ℕ) (s : Cached) → p + k ≡ length (s .dir) → EmptyBelow p (s .dir) → AllEmpty P (evictFrom c P k p s .state .dir)
+  flush-empties : (k p : ℕ) (s : Cached) → p + k ≡ length (s .dir) → EmptyBelow p (s .dir)
+      → AllEmpty P (evictFrom c P k p s .state .dir)
   unfolding evictFrom thenDo
   flush-empties zero p s e E = all-of-them p (s .dir) (omega arith) E
   flush-empties (suc k) p s e E =
       flush-empties k (p + 1) (evictPlace c P p s .state) (rw (evict-length c CL P L N C s p) (omega arith))
-      (one-more p (s .dir) (evictPlace c P p s .state .dir) E (evict-length c CL P L N C s p) (evict-here c CL P L N C s p) (evict-other c CL P L N C s p))
+      (one-more p (s .dir) (evictPlace c P p s .state .dir) E (evict-length c CL P L N C s p)
+      (evict-here c CL P L N C s p) (evict-other c CL P L N C s p))
 
   -- after everything is written back the memories still agree, and every place is empty
   pub all-agrees : (u : Uncached) (s : Cached) → Agree c P L N C u s → Agree c P L N C u (evictAll c P s .state)
@@ -93,19 +100,34 @@ module _ (c : Cipher) (CL : CipherLaws c) (P : Placement) (L : PlacementLaws P) 
   -- with every place empty, the two memories are one
   pub same-mem : (u : Uncached) (s : Cached) → Agree c P L N C u s → AllEmpty P (s .dir) → u .mem ≡ s .mem
   unfolding lineAt
-  same-mem u s A E = by-parts 64 N (u .mem) (s .mem) (A .plainMem .size) (A .good .mem) (λ n h. A .free n h (nowhere (s .dir) n E) .lines)
+  same-mem u s A E = by-parts 64 N (u .mem) (s .mem) (A .plainMem .size) (A .good .mem)
+      (λ n h. A .free n h (nowhere (s .dir) n E) .lines)
 
   pub same-macs : (u : Uncached) (s : Cached) → Agree c P L N C u s → AllEmpty P (s .dir) → u .macs ≡ s .macs
   unfolding macAt
-  same-macs u s A E = by-parts 16 N (u .macs) (s .macs) (A .plainMacs) (A .good .macs) (λ n h. A .free n h (nowhere (s .dir) n E) .macs)
+  same-macs u s A E = by-parts 16 N (u .macs) (s .macs) (A .plainMacs) (A .good .macs)
+      (λ n h. A .free n h (nowhere (s .dir) n E) .macs)
 
   -- with every place empty, another key may be taken
-  pub rekey-agrees : (u : Uncached) (s : Cached) (k : List ℕ) → Agree c P L N C u s → AllEmpty P (s .dir) → Sized 16 k → Agree c P L N C (record { key = k; mem = u .mem; macs = u .macs }) (record { key = k; mem = s .mem; macs = s .macs; cache = s .cache; dir = s .dir })
+  pub rekey-agrees : (u : Uncached) (s : Cached) (k : List ℕ) → Agree c P L N C u s → AllEmpty P (s .dir)
+      → Sized 16 k → Agree c P L N C (record { key = k; mem = u .mem; macs = u .macs })
+      (record { key = k; mem = s .mem; macs = s .macs; cache = s .cache; dir = s .dir })
   unfolding asItStands
   rekey-agrees u s k A E z =
       rw (same-mem u s A E, same-macs u s A E)
       (fresh-agrees (record { key = k; mem = s .mem; macs = s .macs; cache = s .cache; dir = s .dir })
-      (record { key = z; bytes = A .bytes; good = record { mem = A .good .mem; macs = A .good .macs; cache = A .good .cache; places = A .good .places; orderly = A .good .orderly } }) E)
+      (record {
+        key = z;
+        bytes = A .bytes;
+        good = record {
+          mem = A .good .mem;
+          macs = A .good .macs;
+          cache =
+              A .good .cache;
+          places = A .good .places;
+          orderly = A .good .orderly;
+        };
+      }) E)
 
   -- a slot that is lost: memory and MAC area stand, the rest is as after an eviction
   lose-proper : (s : Cached) (p : ℕ) → p < length (s .dir) → Proper s → Proper (losePlace P p s)
@@ -121,14 +143,16 @@ module _ (c : Cipher) (CL : CipherLaws c) (P : Placement) (L : PlacementLaws P) 
     rest : Proper t
     gone : AllEmpty P (t .dir)
 
-  losing : (k p : ℕ) (s : Cached) → p + k ≡ length (s .dir) → EmptyBelow p (s .dir) → Proper s → Lost (loseFrom P k p s)
+  losing : (k p : ℕ) (s : Cached) → p + k ≡ length (s .dir) → EmptyBelow p (s .dir) → Proper s
+      → Lost (loseFrom P k p s)
   unfolding loseFrom
   losing zero p s e E r = record { rest = r; gone = all-of-them p (s .dir) (omega arith) E }
   losing (suc k) p s e E r =
       let t = losePlace P p s in
       let l : length (t .dir) ≡ length (s .dir) = lose-length c CL P L N C s p in
       losing k (p + 1) t (rw l (omega arith))
-      (one-more p (s .dir) (t .dir) E l (λ h. rw (lose-dir s p) (evict-here c CL P L N C s p h)) (λ q d. rw (lose-dir s p) (evict-other c CL P L N C s p q d)))
+      (one-more p (s .dir) (t .dir) E l (λ h. rw (lose-dir s p) (evict-here c CL P L N C s p h))
+      (λ q d. rw (lose-dir s p) (evict-other c CL P L N C s p q d)))
       (lose-proper s p (omega arith) r)
 
   -- after a power cut every place is empty, and the memory is still one in use

@@ -23,13 +23,16 @@ use Rattle.agree.specs.Agree.{Free, Agree}
 
 module _ (c : Cipher) (CL : CipherLaws c) (P : Placement) (L : PlacementLaws P) (N C : ℕ) where
   -- the bytes of a held line are 64 bytes
-  pub body-sized : (u : Uncached) (s : Cached) (p : ℕ) → Agree c P L N C u s → p < length (s .dir) → P .look (s .dir) p .used ≡ true → Sized 64 (lineAt p (s .cache))
+  pub body-sized : (u : Uncached) (s : Cached) (p : ℕ) → Agree c P L N C u s → p < length (s .dir)
+      → P .look (s .dir) p .used ≡ true → Sized 64 (lineAt p (s .cache))
   body-sized u s p A hp h =
       let e = P .look (s .dir) p in
-      rw (A .held p hp h .viewed) (seen-sized c CL (s .key) (A .key) (e .line) (e .tag) (lineAt (e .line) (u .mem)) (line-sized N (e .line) (u .mem) (A .plainMem) (L .held-line (s .dir) p (A .good .orderly) hp h)))
+      rw (A .held p hp h .viewed) (seen-sized c CL (s .key) (A .key) (e .line) (e .tag) (lineAt (e .line) (u .mem))
+      (line-sized N (e .line) (u .mem) (A .plainMem) (L .held-line (s .dir) p (A .good .orderly) hp h)))
 
   -- a used slot is evicted
-  module _ (u : Uncached) (s : Cached) (p : ℕ) (A : Agree c P L N C u s) (hp : p < length (s .dir)) (h : P .look (s .dir) p .used ≡ true) where
+  module _ (u : Uncached) (s : Cached) (p : ℕ) (A : Agree c P L N C u s) (hp : p < length (s .dir))
+      (h : P .look (s .dir) p .used ≡ true) where
     abbrev e : Entry
     e = P .look (s .dir) p
 
@@ -63,11 +66,14 @@ module _ (c : Cipher) (CL : CipherLaws c) (P : Placement) (L : PlacementLaws P) 
           plainKey = refl;
           key = refl;
           looks = L .clear-other (s .dir) p;
-          slots = λ q d. nth-put-other 64 (length (s .dir)) (s .cache) (A .good .cache) true q p (zeros 64) hp (length-zeros 64) d;
+          slots = λ q d. nth-put-other 64 (length (s .dir)) (s .cache) (A .good .cache) true q p (zeros 64) hp
+              (length-zeros 64) d;
           plainLines = λ i d. refl;
           plainMacs = λ i d. refl;
-          lines = λ i d. nth-put-other 64 N (s .mem) (A .good .mem) (e .dirty) i (e .line) line (in-memory c CL P L N C s p (A .good) hp h) (line-fits .size) d;
-          macs = λ i d. nth-put-other 16 N (s .macs) (A .good .macs) (e .dirty) i (e .line) mac (in-memory c CL P L N C s p (A .good) hp h) (home-mac c CL P L N C s p (A .good) hp h) d;
+          lines = λ i d. nth-put-other 64 N (s .mem) (A .good .mem) (e .dirty) i (e .line) line
+              (in-memory c CL P L N C s p (A .good) hp h) (line-fits .size) d;
+          macs = λ i d. nth-put-other 16 N (s .macs) (A .good .macs) (e .dirty) i (e .line) mac
+              (in-memory c CL P L N C s p (A .good) hp h) (home-mac c CL P L N C s p (A .good) hp h) d;
           plainMemSize = A .plainMem;
           plainMacsSize = A .plainMacs;
           bytes = nth-put-bytes 64 (e .line) (e .dirty) line (s .mem) (line-fits .bytes) (A .bytes);
@@ -76,12 +82,17 @@ module _ (c : Cipher) (CL : CipherLaws c) (P : Placement) (L : PlacementLaws P) 
           home =
               λ w.
               record {
-                lines = A .held p hp h .lines ∙ sym (nth-put-here 64 N (s .mem) (A .good .mem) (e .dirty) (e .line) line (in-memory c CL P L N C s p (A .good) hp h) (line-fits .size));
-                macs = A .held p hp h .macs ∙ sym (nth-put-here 16 N (s .macs) (A .good .macs) (e .dirty) (e .line) mac (in-memory c CL P L N C s p (A .good) hp h) (home-mac c CL P L N C s p (A .good) hp h));
+                lines = A .held p hp h .lines
+                    ∙ sym (nth-put-here 64 N (s .mem) (A .good .mem) (e .dirty) (e .line) line
+                    (in-memory c CL P L N C s p (A .good) hp h) (line-fits .size));
+                macs = A .held p hp h .macs
+                    ∙ sym (nth-put-here 16 N (s .macs) (A .good .macs) (e .dirty) (e .line) mac
+                    (in-memory c CL P L N C s p (A .good) hp h) (home-mac c CL P L N C s p (A .good) hp h));
               };
         })
 
-  pub evict-agrees : (u : Uncached) (s : Cached) (p : ℕ) → Agree c P L N C u s → p < length (s .dir) → Agree c P L N C u (evictPlace c P p s .state)
+  pub evict-agrees : (u : Uncached) (s : Cached) (p : ℕ) → Agree c P L N C u s → p < length (s .dir)
+      → Agree c P L N C u (evictPlace c P p s .state)
   unfolding evictPlace
   evict-agrees u s p A hp =
       by-test (P .look (s .dir) p .used)
@@ -89,13 +100,15 @@ module _ (c : Cipher) (CL : CipherLaws c) (P : Placement) (L : PlacementLaws P) 
       (λ h. rw (evict-empty c CL P L N C s p (A .good .orderly) hp h) A)
 
   -- a line whose place was evicted is held nowhere
-  pub evict-frees : (s : Cached) (n p : ℕ) → L .Orderly N (s .dir) → p < length (s .dir) → P .choose (s .dir) n ≡ p → Free P (evictPlace c P p s .state .dir) n
+  pub evict-frees : (s : Cached) (n p : ℕ) → L .Orderly N (s .dir) → p < length (s .dir)
+      → P .choose (s .dir) n ≡ p → Free P (evictPlace c P p s .state .dir) n
   evict-frees s n p o hp e =
       record {
         nowhere =
             λ q hq w z.
             by-eq q p
-            (λ a. false≢true (sym (evict-here c CL P L N C s p hp) ∙ subst (λ (r : ℕ). P .look (evictPlace c P p s .state .dir) r .used ≡ true) a w))
+            (λ a. false≢true (sym (evict-here c CL P L N C s p hp)
+            ∙ subst (λ (r : ℕ). P .look (evictPlace c P p s .state .dir) r .used ≡ true) a w))
             (λ a.
             let hq′ : q < length (s .dir) = rw (evict-length c CL P L N C s p) at hq in
             let w′ : P .look (s .dir) q .used ≡ true = rw (evict-other c CL P L N C s p q a) at w in

@@ -1,4 +1,5 @@
--- A change of one slot and of the one line that it concerns keeps the agreement, if that slot and that line agree again: the one argument behind evict, fill and write.
+-- A change of one slot and of the one line that it concerns keeps the agreement, if that slot and that line agree
+-- again: the one argument behind evict, fill and write.
 use Prim.Native.Nat.{ℕ, _*_, _<_}
 use mathlib.Core.Path.{_≡_, sym, ap, _∙_, subst}
 use mathlib.Core.Logic.{_≢_}
@@ -18,19 +19,25 @@ use Rattle.keeps.specs.Good.{Good}
 use Rattle.agree.specs.Agree.{Held, HeldAt, Free, Same, Agree}
 
 -- a held line after the lists around it were replaced by equal ones
-pub held-moves : (c : Cipher) (e : Entry) {key key′ l m h g b l′ m′ h′ g′ b′ : List ℕ} → key ≡ key′ → l ≡ l′ → m ≡ m′ → h ≡ h′ → g ≡ g′ → b ≡ b′ → Held c key e l m h g b → Held c key′ e l′ m′ h′ g′ b′
+pub held-moves : (c : Cipher) (e : Entry) {key key′ l m h g b l′ m′ h′ g′ b′ : List ℕ} → key ≡ key′
+    → l ≡ l′ → m ≡ m′ → h ≡ h′ → g ≡ g′ → b ≡ b′ → Held c key e l m h g b
+    → Held c key′ e l′ m′ h′ g′ b′
 held-moves c e k p q r t v H = rw (← k, ← p, ← q, ← r, ← t, ← v) H
 
 module _ (c : Cipher) (P : Placement) (L : PlacementLaws P) (N C : ℕ) where
   -- two used places that hold one line are one place
-  pub one-place : (d : List ℕ) (p q : ℕ) → L .Orderly N d → p < length d → q < length d → P .look d p .used ≡ true → P .look d q .used ≡ true → P .look d q .line ≡ P .look d p .line → q ≡ p
-  one-place d p q o hp hq up uq e = sym (L .held-chosen d q o hq uq) ∙ (ap (P .choose d) e ∙ L .held-chosen d p o hp up)
+  pub one-place : (d : List ℕ) (p q : ℕ) → L .Orderly N d → p < length d → q < length d
+      → P .look d p .used ≡ true → P .look d q .used ≡ true → P .look d q .line ≡ P .look d p .line
+      → q ≡ p
+  one-place d p q o hp hq up uq e = sym (L .held-chosen d q o hq uq)
+      ∙ (ap (P .choose d) e ∙ L .held-chosen d p o hp up)
 
   -- only slot p and line n changed
   pub record Updated (n p : ℕ) (u u′ : Uncached) (s s′ : Cached) : Type 0 where
     -- line n was at p if it was anywhere, and p holds line n if it holds anything
     pub occupant : P .look (s .dir) p .used ≡ true → P .look (s .dir) p .line ≡ n
-    pub alone : (q : ℕ) → q ≢ p → q < length (s .dir) → P .look (s .dir) q .used ≡ true → P .look (s .dir) q .line ≢ n
+    pub alone : (q : ℕ) → q ≢ p → q < length (s .dir) → P .look (s .dir) q .used ≡ true
+        → P .look (s .dir) q .line ≢ n
     pub named : P .look (s′ .dir) p .used ≡ true → P .look (s′ .dir) p .line ≡ n
     -- what stands
     pub plainKey : u′ .key ≡ u .key
@@ -50,15 +57,18 @@ module _ (c : Cipher) (P : Placement) (L : PlacementLaws P) (N C : ℕ) where
     pub here : P .look (s′ .dir) p .used ≡ true → HeldAt c (P .look (s′ .dir) p) p u′ s′
     pub home : P .look (s′ .dir) p .used ≡ false → Same n u′ s′
 
-  module _ (n p : ℕ) (u u′ : Uncached) (s s′ : Cached) (A : Agree c P L N C u s) (hp : p < length (s .dir)) (U : Updated n p u u′ s s′) where
+  module _ (n p : ℕ) (u u′ : Uncached) (s s′ : Cached) (A : Agree c P L N C u s) (hp : p < length (s .dir))
+      (U : Updated n p u u′ s s′) where
     same-places : length (s′ .dir) ≡ length (s .dir)
     same-places = U .good .places ∙ sym (A .good .places)
 
-    others : (q : ℕ) → q ≢ p → q < length (s .dir) → P .look (s .dir) q .used ≡ true → HeldAt c (P .look (s .dir) q) q u′ s′
+    others : (q : ℕ) → q ≢ p → q < length (s .dir) → P .look (s .dir) q .used ≡ true
+        → HeldAt c (P .look (s .dir) q) q u′ s′
     others q d hq w =
         let i = P .look (s .dir) q .line in
         let a : i ≢ n = U .alone q d hq w in
-        held-moves c (P .look (s .dir) q) (sym (U .key)) (sym (U .plainLines i a)) (sym (U .plainMacs i a)) (sym (U .lines i a)) (sym (U .macs i a)) (sym (U .slots q d))
+        held-moves c (P .look (s .dir) q) (sym (U .key)) (sym (U .plainLines i a)) (sym (U .plainMacs i a))
+        (sym (U .lines i a)) (sym (U .macs i a)) (sym (U .slots q d))
         (A .held q hq w)
 
     -- another line that no place holds now was held by no place before
@@ -68,7 +78,8 @@ module _ (c : Cipher) (P : Placement) (L : PlacementLaws P) (N C : ℕ) where
           nowhere =
               λ q hq w z.
               by-eq q p
-              (λ b. a (sym z ∙ (ap (λ (r : ℕ). P .look (s .dir) r .line) b ∙ U .occupant (subst (λ (r : ℕ). P .look (s .dir) r .used ≡ true) b w))))
+              (λ b. a (sym z ∙ (ap (λ (r : ℕ). P .look (s .dir) r .line) b
+              ∙ U .occupant (subst (λ (r : ℕ). P .look (s .dir) r .used ≡ true) b w))))
               (λ b. f .nowhere q (rw same-places hq) (rw (U .looks q b) w) (rw (U .looks q b) z));
         }
 

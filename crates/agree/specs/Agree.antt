@@ -16,10 +16,12 @@ use Rattle.model.specs.Cached.{Cached}
 use Rattle.keeps.specs.Good.{Good}
 
 -- A held line, from its entry, the manual's line and MAC, the cached memory's line and MAC, and the slot's bytes:
--- the manual has what a write-back would leave, that passes the entry's check, and the slot has what the tag sees of it.
+-- the manual has what a write-back would leave, that passes the entry's check, and the slot has what the tag sees of
+-- it.
 pub record Held (c : Cipher) (key : List ℕ) (e : Entry) (line mac home homeMac body : List ℕ) : Type 0 where
   pub lines : line ≡ if (e .dirty) (stored c (e .tag) key (e .line) body) home
-  pub macs : mac ≡ if (e .dirty) (signed c (e .tag) key (e .line) (stored c (e .tag) key (e .line) body) homeMac) homeMac
+  pub macs : mac ≡ if (e .dirty) (signed c (e .tag) key (e .line) (stored c (e .tag) key (e .line) body) homeMac)
+      homeMac
   pub checked : passes c (e .tag) key (e .line) line mac ≡ true
   pub viewed : body ≡ seen c (e .tag) key (e .line) line
 
@@ -39,15 +41,18 @@ pub record AllEmpty (P : Placement) (dir : List ℕ) : Type 0 where
 -- what the entry e at place p must satisfy
 abbrev pub HeldAt : Cipher → Entry → ℕ → Uncached → Cached → Type 0
 HeldAt c e p u s =
-    Held c (s .key) e (lineAt (e .line) (u .mem)) (macAt (e .line) (u .macs)) (lineAt (e .line) (s .mem)) (macAt (e .line) (s .macs)) (lineAt p (s .cache))
+    Held c (s .key) e (lineAt (e .line) (u .mem)) (macAt (e .line) (u .macs)) (lineAt (e .line) (s .mem))
+    (macAt (e .line) (s .macs)) (lineAt p (s .cache))
 
 -- the two memories, of N lines and with C slots in the cache, agree
-pub record Agree (c : Cipher) (P : Placement) (L : PlacementLaws P) (N C : ℕ) (u : Uncached) (s : Cached) : Type 0 where
-  pub keys : u .key ≡ s .key
-  pub key : Sized 16 (s .key)
-  pub plainMem : Sized (N * 64) (u .mem)
-  pub plainMacs : length (u .macs) ≡ N * 16
-  pub bytes : Bytes (s .mem)
-  pub good : Good P L N C s
-  pub held : (p : ℕ) → p < length (s .dir) → P .look (s .dir) p .used ≡ true → HeldAt c (P .look (s .dir) p) p u s
-  pub free : (n : ℕ) → n < N → Free P (s .dir) n → Same n u s
+pub record Agree (c : Cipher) (P : Placement) (L : PlacementLaws P) (N C : ℕ) (u : Uncached) (s : Cached) : Type 0
+  where
+    pub keys : u .key ≡ s .key
+    pub key : Sized 16 (s .key)
+    pub plainMem : Sized (N * 64) (u .mem)
+    pub plainMacs : length (u .macs) ≡ N * 16
+    pub bytes : Bytes (s .mem)
+    pub good : Good P L N C s
+    pub held : (p : ℕ) → p < length (s .dir) → P .look (s .dir) p .used ≡ true
+        → HeldAt c (P .look (s .dir) p) p u s
+    pub free : (n : ℕ) → n < N → Free P (s .dir) n → Same n u s

@@ -1,4 +1,2 @@
--- What the numbers, instruction words and line numbers of a board file are.
+-- What holds of every board that is read from a text.
 pub mod Boards
-pub mod Digits
-pub mod Words

@@ -1,14 +1,15 @@
 // The board that a file says: its sizes, keys, registers at the start, and how many instructions its sheets run.
-use crate::errors;
-use crate::names;
-use crate::statement;
-use crate::statement::Statement;
+use board_text::errors;
+use board_text::names;
+use board_text::statement;
+use board_text::statement::Statement;
 ghost use mathlib.Core.Path.{_≡_};
 ghost use Prim.Native.Nat.{_<_};
 ghost use lib.ListN.{length};
 ghost use Rattle.board_file.specs.Boards.{Within, Read};
 
-// A board; error is 0, or a number of `errors` with the line where it was met. said[k]: statement k was met; said[32 + i]: register i was.
+// A board; error is 0, or a number of `errors` with the line where it was met. said[k]: statement k was met; said[32 +
+// i]: register i was.
 pub struct Board {
     pub memory: usize,
     pub slots: usize,
@@ -201,7 +202,8 @@ fn with(b: Board, s: Statement) -> Board
 // A board at the end of its text: its memory and its slots have to be said.
 fn ended(b: Board) -> Board
     requires { ⌜ Within b ⌝ }
-    ensures { λ r. ⌜ (Within r) × (r .line ≡ b .line) × (r .error ≡ 0 → 0 < r .memory) × (r .error ≡ 0 → 0 < r .slots) ⌝ }
+    ensures { λ r. ⌜ (Within r) × (r .line ≡ b .line) × (r .error ≡ 0 → 0 < r .memory)
+        × (r .error ≡ 0 → 0 < r .slots) ⌝ }
 {
     if b.memory == 0 {
         return refused(b, errors::NO_MEMORY);

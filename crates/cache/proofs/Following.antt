@@ -1,13 +1,13 @@
--- One thing done after another: what is done, and what is fit for it.
-use Prim.Native.Nat.{ℕ, _+_, _*_, _/_, _≤_, _<_}
+-- One thing done after another: what is done, what is counted, and that the memory stays fit.
+use Prim.Native.Nat.{ℕ, _/_, _≤_, _<_, _^_}
 use native.Mathlib.Omega.{arith}
-use mathlib.Core.Path.{_≡_, refl, sym, ap, ap₂, _∙_, subst}
+use mathlib.Core.Path.{_≡_, sym, ap, ap₂, _∙_}
 use mathlib.Core.Bool.{Bool, true}
-use mathlib.Core.List.{List, _++_}
 use lib.ListN.{length}
+use Rattle.model.specs.Tags.{Tag}
 use Rattle.model.specs.Log.{Counts, countsOf, plus}
-use Rattle.lists.specs.If.{if}
-use Rattle.model.specs.Tags.{Tag, isChecked}
+use Rattle.model.specs.Placement.{Placement}
+use Rattle.model.specs.PlacementLaws.{PlacementLaws}
 use Rattle.model.specs.Cached.{Cached, Did, thenDo, evictPlace, fillPlace}
 use Rattle.model.proofs.Sums.{counts-append}
 use Rattle.directory.specs.Direct.{direct}
@@ -15,32 +15,34 @@ use Rattle.directory.proofs.DirectLaws.{direct-laws}
 use Rattle.keeps.specs.Good.{Good}
 use Rattle.keeps.specs.Within.{Within}
 use Rattle.keeps.proofs.Evict.{evict-good}
-use Rattle.keeps.proofs.Counts.{evict-within}
+use Rattle.keeps.proofs.Counts.{evict-within, fill-within}
 use Rattle.ciphers.specs.Cipher.{aesCipher}
 use Rattle.ciphers.proofs.Laws.{aesLaws}
-use Rattle.cache.specs.Lent.{Fit}
-use Rattle.cache.specs.Does.{Does, fillCounts}
+use Rattle.cache.specs.Lent.{FitAt, Fit}
+use Rattle.cache.specs.Does.{Does}
 
 -- a good memory is fit, whatever its sizes are called
-pub good-fit : (N C : ℕ) (s : Cached) → Good direct direct-laws N C s → Fit s
-good-fit N C s G =
+good-fit-at : (P : Placement) (L : PlacementLaws P) (N C : ℕ) (s : Cached) → Good P L N C s → FitAt P L s
+good-fit-at P L N C s G =
     let n : length (s .mem) / 64 ≡ N = omega (arith, G .mem) in
     let c : length (s .dir) ≡ C = G .places in
     rw (n, c) G
 
-pub does-then : (a : Did) (f : Cached → Did) (j k : Counts) (s t : Cached) (ok : Bool) → Does a true j s → Does (f s) ok k t → Does (thenDo a f) ok (plus j k) t
+pub good-fit : (N C : ℕ) (s : Cached) → Good direct direct-laws N C s → Fit s
+good-fit N C s G = good-fit-at direct direct-laws N C s G
+
+pub does-then : (a : Did) (f : Cached → Did) (j k r : Counts) (s t : Cached) (ok : Bool) → Does a true j s
+    → Does (f s) ok k t → r ≡ plus j k → Does (thenDo a f) ok r t
 unfolding thenDo
-does-then a f j k s t ok x y =
+does-then a f j k r s t ok x y e =
     record {
       answer = y .answer ∙ ap (λ (z : Cached). f z .ok) (x .left);
-      counted = ap₂ plus (x .counted) (y .counted ∙ ap (λ (z : Cached). countsOf (f z .log)) (x .left)) ∙ sym (counts-append (a .log) (f (a .state) .log));
+      counted =
+          e
+          ∙ (ap₂ plus (x .counted) (y .counted ∙ ap (λ (z : Cached). countsOf (f z .log)) (x .left))
+          ∙ sym (counts-append (a .log) (f (a .state) .log)));
       left = y .left ∙ ap (λ (z : Cached). f z .state) (x .left);
     }
-
--- after an eviction the memory is fit, and at most one line was written
-pub evicted-fit : (s t : Cached) (p : ℕ) (k : Counts) → Fit s → p < length (s .dir) → Does (evictPlace aesCipher direct p s) true k t → Fit t
-evicted-fit s t p k F hp D =
-    rw (D .left) (good-fit (length (s .mem) / 64) (length (s .dir)) (evictPlace aesCipher direct p s .state) (evict-good aesCipher aesLaws direct direct-laws (length (s .mem) / 64) (length (s .dir)) s p F hp))
 
 -- counts that are small
 pub record Small (b : ℕ) (k : Counts) : Type 0 where
@@ -49,7 +51,14 @@ pub record Small (b : ℕ) (k : Counts) : Type 0 where
   pub checked : k .checked ≤ b
   pub made : k .made ≤ b
 
-pub within-small : (f w b : ℕ) (d : Did) (ok : Bool) (k : Counts) (t : Cached) → f ≤ b → w ≤ b → Within f w (d .log) → Does d ok k t → Small b k
+pub small-bounded : (b : ℕ) (k : Counts) → b ≤ 2 ^ 62 → Small b k
+    → (k .filled ≤ 2 ^ 62) × (k .written ≤ 2 ^ 62) × (k .checked ≤ 2 ^ 62) × (k .made ≤ 2 ^ 62)
+small-bounded b k h S =
+    (omega (arith, S .filled), omega (arith, S .written), omega (arith, S .checked), omega (arith, S .made))
+
+pub within-small : (f w b : ℕ) (d : Did) (ok : Bool) (k : Counts) (t : Cached) → f ≤ b → w ≤ b
+    → Within f w (d .log)
+    → Does d ok k t → Small b k
 within-small f w b d ok k t hf hw W D =
     rw (D .counted)
     (record {
@@ -59,11 +68,22 @@ within-small f w b d ok k t hf hw W D =
       made = omega (arith, W .written, W .made);
     })
 
-pub evicted-small : (s t : Cached) (p : ℕ) (k : Counts) → Does (evictPlace aesCipher direct p s) true k t → Small 1 k
-evicted-small s t p k D = within-small 0 1 1 (evictPlace aesCipher direct p s) true k t (omega arith) (omega arith) (evict-within aesCipher direct s p) D
+module _ (P : Placement) (s t : Cached) (p : ℕ) (k : Counts) where
+  -- after an eviction the memory is fit, and at most one line was written
+  pub evicted-fit : (L : PlacementLaws P) → FitAt P L s → p < length (s .dir)
+      → Does (evictPlace aesCipher P p s) true k t → FitAt P L t
+  evicted-fit L F hp D =
+      let N = length (s .mem) / 64 in
+      let C = length (s .dir) in
+      rw (D .left) (good-fit-at P L N C (evictPlace aesCipher P p s .state)
+      (evict-good aesCipher aesLaws P L N C s p F hp))
 
--- an eviction and then a fill
-pub replaces : (s t u : Cached) (tag : Tag) (n p : ℕ) (j r : Counts) (ok : Bool) (checked : ℕ) → Does (evictPlace aesCipher direct p s) true j t → Does (fillPlace aesCipher direct tag n p t) ok (fillCounts tag) u → checked ≡ if (isChecked tag) 1 0 → r ≡ plus j (record { filled = 1; written = 0; checked = checked; made = 0 }) → Does (thenDo (evictPlace aesCipher direct p s) (fillPlace aesCipher direct tag n p)) ok r u
-unfolding fillCounts
-replaces s t u tag n p j r ok checked a b e q =
-    rw (q, e) (does-then (evictPlace aesCipher direct p s) (fillPlace aesCipher direct tag n p) j (fillCounts tag) t u ok a b)
+  pub evicted-small : Does (evictPlace aesCipher P p s) true k t → Small 1 k
+  evicted-small D =
+      within-small 0 1 1 (evictPlace aesCipher P p s) true k t (omega arith) (omega arith)
+      (evict-within aesCipher P s p) D
+
+  pub filled-small : (tag : Tag) (n : ℕ) (ok : Bool) → Does (fillPlace aesCipher P tag n p s) ok k t → Small 1 k
+  filled-small tag n ok D =
+      within-small 1 0 1 (fillPlace aesCipher P tag n p s) ok k t (omega arith) (omega arith)
+      (fill-within aesCipher P s tag n p) D

@@ -3,6 +3,8 @@ use Prim.Native.Nat.{ℕ, _/_}
 use mathlib.Core.List.{List}
 use lib.ListN.{length}
 use Rattle.model.specs.Log as log
+use Rattle.model.specs.Placement.{Placement}
+use Rattle.model.specs.PlacementLaws.{PlacementLaws}
 use Rattle.model.specs.Cached.{Cached}
 use Rattle.directory.specs.Direct.{direct}
 use Rattle.directory.proofs.DirectLaws.{direct-laws}
@@ -18,6 +20,10 @@ lent hi lo mem macs cache dir = record { key = drkOf hi lo; mem = mem; macs = ma
 abbrev pub countsIn : Counts → log.Counts
 countsIn k = record { filled = k .filled; written = k .written; checked = k .checked; made = k .made }
 
+-- a memory in good order at the sizes that it has, under a placement
+abbrev pub FitAt : (P : Placement) → PlacementLaws P → Cached → Type 0
+FitAt P L s = Good P L (length (s .mem) / 64) (length (s .dir)) s
+
 -- what refusals 101 to 104 let pass
 abbrev pub Fit : Cached → Type 0
-Fit s = Good direct direct-laws (length (s .mem) / 64) (length (s .dir)) s
+Fit s = FitAt direct direct-laws s

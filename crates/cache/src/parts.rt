@@ -13,7 +13,8 @@ ghost use Rattle.cache.specs.Does.{WrittenBack};
 // Bytes put over those from place a on.
 fn put(to: &mut [u8], a: usize, from: &[u8])
     requires { ⌜ a + length (now from) ≤ length (now to) ⌝ }
-    ensures { λ _. ⌜ now (to .exit) ≡ putAt a (length (now (from .entry))) (now (from .entry)) (now (to .entry)) ⌝ }
+    ensures { λ _. ⌜ now (to .exit) ≡ putAt a (length (now (from .entry))) (now (from .entry)) (now (to .entry))
+        ⌝ }
 {
     let e = a + from.len();
     bytes::copy(from, &mut to[a..e]);
@@ -43,7 +44,8 @@ fn copy_line(to: &mut [u8], i: usize, from: &[u8], j: usize)
 fn seal_slot(hi: u64, lo: u64, cache: &mut [u8], slot: usize, n: usize)
     requires { ⌜ slot * 64 + 64 ≤ length (now cache) ⌝ }
     requires { ⌜ n ≤ 1024 ⌝ }
-    ensures { λ _. ⌜ now (cache .exit) ≡ putLine slot (enciphered (drkOf hi lo) (n * 64) (lineAt slot (now (cache .entry)))) (now (cache .entry)) ⌝ }
+    ensures { λ _. ⌜ now (cache .exit) ≡ putLine slot
+        (enciphered (drkOf hi lo) (n * 64) (lineAt slot (now (cache .entry)))) (now (cache .entry)) ⌝ }
 {
     let a = slot * 64;
     let e = a + 64;
@@ -54,7 +56,8 @@ fn seal_slot(hi: u64, lo: u64, cache: &mut [u8], slot: usize, n: usize)
 fn open_slot(hi: u64, lo: u64, cache: &mut [u8], slot: usize, n: usize)
     requires { ⌜ slot * 64 + 64 ≤ length (now cache) ⌝ }
     requires { ⌜ n ≤ 1024 ⌝ }
-    ensures { λ _. ⌜ now (cache .exit) ≡ putLine slot (deciphered (drkOf hi lo) (n * 64) (lineAt slot (now (cache .entry)))) (now (cache .entry)) ⌝ }
+    ensures { λ _. ⌜ now (cache .exit) ≡ putLine slot
+        (deciphered (drkOf hi lo) (n * 64) (lineAt slot (now (cache .entry)))) (now (cache .entry)) ⌝ }
 {
     let a = slot * 64;
     let e = a + 64;
@@ -66,7 +69,8 @@ fn sign(hi: u64, lo: u64, macs: &mut [u8], n: usize, cache: &[u8], slot: usize)
     requires { ⌜ n * 16 + 16 ≤ length (now macs) ⌝ }
     requires { ⌜ slot * 64 + 64 ≤ length (now cache) ⌝ }
     requires { ⌜ n ≤ 1024 ⌝ }
-    ensures { λ _. ⌜ now (macs .exit) ≡ putMac n (dataMac (drkOf hi lo) (n * 64) (lineAt slot (now (cache .entry)))) (now (macs .entry)) ⌝ }
+    ensures { λ _. ⌜ now (macs .exit) ≡ putMac n
+        (dataMac (drkOf hi lo) (n * 64) (lineAt slot (now (cache .entry)))) (now (macs .entry)) ⌝ }
 {
     let a = slot * 64;
     let e = a + 64;
@@ -78,7 +82,8 @@ fn sign(hi: u64, lo: u64, macs: &mut [u8], n: usize, cache: &[u8], slot: usize)
 fn code_right(hi: u64, lo: u64, mem: &[u8], n: usize) -> bool
     requires { ⌜ n * 64 + 64 ≤ length (now mem) ⌝ }
     requires { ⌜ n ≤ 1024 ⌝ }
-    ensures { λ r. ⌜ r ≡ passes aesCipher secureInstruction (drkOf hi lo) n (lineAt n (now (mem .entry))) (now (mem .entry)) ⌝ }
+    ensures { λ r. ⌜ r ≡ passes aesCipher secureInstruction (drkOf hi lo) n (lineAt n (now (mem .entry)))
+        (now (mem .entry)) ⌝ }
 {
     let a = n * 64;
     let b = a + 48;
@@ -92,7 +97,8 @@ fn data_right(hi: u64, lo: u64, mem: &[u8], macs: &[u8], n: usize) -> bool
     requires { ⌜ n * 64 + 64 ≤ length (now mem) ⌝ }
     requires { ⌜ n * 16 + 16 ≤ length (now macs) ⌝ }
     requires { ⌜ n ≤ 1024 ⌝ }
-    ensures { λ r. ⌜ r ≡ passes aesCipher secureData (drkOf hi lo) n (lineAt n (now (mem .entry))) (macAt n (now (macs .entry))) ⌝ }
+    ensures { λ r. ⌜ r ≡ passes aesCipher secureData (drkOf hi lo) n (lineAt n (now (mem .entry)))
+        (macAt n (now (macs .entry))) ⌝ }
 {
     let a = n * 64;
     let e = a + 64;
@@ -107,7 +113,8 @@ pub fn right(hi: u64, lo: u64, mem: &[u8], macs: &[u8], tag: u32, n: usize) -> b
     requires { ⌜ n * 64 + 64 ≤ length (now mem) ⌝ }
     requires { ⌜ n * 16 + 16 ≤ length (now macs) ⌝ }
     requires { ⌜ n ≤ 1024 ⌝ }
-    ensures { λ r. ⌜ r ≡ passes aesCipher (tagNamed tag) (drkOf hi lo) n (lineAt n (now (mem .entry))) (macAt n (now (macs .entry))) ⌝ }
+    ensures { λ r. ⌜ r ≡ passes aesCipher (tagNamed tag) (drkOf hi lo) n (lineAt n (now (mem .entry)))
+        (macAt n (now (macs .entry))) ⌝ }
 {
     if tag == 1 {
         return code_right(hi, lo, mem, n);
@@ -123,7 +130,8 @@ pub fn bring(hi: u64, lo: u64, mem: &[u8], cache: &mut [u8], tag: u32, n: usize,
     requires { ⌜ n * 64 + 64 ≤ length (now mem) ⌝ }
     requires { ⌜ slot * 64 + 64 ≤ length (now cache) ⌝ }
     requires { ⌜ n ≤ 1024 ⌝ }
-    ensures { λ _. ⌜ now (cache .exit) ≡ putLine slot (seen aesCipher (tagNamed tag) (drkOf hi lo) n (lineAt n (now (mem .entry)))) (now (cache .entry)) ⌝ }
+    ensures { λ _. ⌜ now (cache .exit) ≡ putLine slot
+        (seen aesCipher (tagNamed tag) (drkOf hi lo) n (lineAt n (now (mem .entry)))) (now (cache .entry)) ⌝ }
 {
     copy_line(cache, slot, mem, n);
     if tag == 2 {
@@ -146,7 +154,8 @@ pub fn write_back(
     requires { ⌜ n * 16 + 16 ≤ length (now macs) ⌝ }
     requires { ⌜ slot * 64 + 64 ≤ length (now cache) ⌝ }
     requires { ⌜ n ≤ 1024 ⌝ }
-    ensures { λ _. ⌜ WrittenBack (tagNamed tag) (drkOf hi lo) n slot (now (mem .entry)) (now (macs .entry)) (now (cache .entry)) (now (mem .exit)) (now (macs .exit)) (now (cache .exit)) ⌝ }
+    ensures { λ _. ⌜ WrittenBack (tagNamed tag) (drkOf hi lo) n slot (now (mem .entry)) (now (macs .entry))
+        (now (cache .entry)) (now (mem .exit)) (now (macs .exit)) (now (cache .exit)) ⌝ }
 {
     if tag == 2 {
         seal_slot(hi, lo, cache, slot, n);

@@ -1,6 +1,8 @@
 // A line dropped, and every slot evicted or lost.
 use crate::slots;
 use crate::slots::Counts;
+use directory::number;
+use directory::place;
 ghost use mathlib.Core.Path.{_≡_};
 ghost use mathlib.Core.Bool.{true};
 ghost use Prim.Native.Nat.{_*_, _<_, _/_};
@@ -23,25 +25,13 @@ pub fn drop_line(
 ) -> Counts
     requires { ⌜ Fit (lent hi lo (now mem) (now macs) (now cache) (now dir)) ⌝ }
     requires { ⌜ n < length (now mem) / 64 ⌝ }
-    ensures { λ r. ⌜ Does (evictLine aesCipher direct n (lent hi lo (now (mem .entry)) (now (macs .entry)) (now (cache .entry)) (now (dir .entry)))) true (countsIn r) (lent hi lo (now (mem .exit)) (now (macs .exit)) (now (cache .exit)) (now (dir .exit))) ⌝ }
+    ensures { λ r. ⌜ Does (evictLine aesCipher direct n (lent hi lo (now (mem .entry)) (now (macs .entry))
+        (now (cache .entry)) (now (dir .entry)))) true (countsIn r) (lent hi lo (now (mem .exit)) (now (macs .exit))
+        (now (cache .exit)) (now (dir .exit))) ⌝ }
 {
-    let slot = n % dir.len();
-    let d = dir[slot];
-    if d % 2 == 0 {
-        return Counts {
-            filled: 0,
-            written: 0,
-            checked: 0,
-            made: 0,
-        };
-    }
-    if (d / 16 % 1024) as usize != n {
-        return Counts {
-            filled: 0,
-            written: 0,
-            checked: 0,
-            made: 0,
-        };
+    let slot = place::choose(dir, n);
+    if !number::holds(dir[slot], n) {
+        return slots::none();
     }
     slots::evict(hi, lo, mem, macs, cache, dir, slot)
 }
@@ -56,15 +46,12 @@ pub fn evict_all(
     dir: &mut [u32],
 ) -> Counts
     requires { ⌜ Fit (lent hi lo (now mem) (now macs) (now cache) (now dir)) ⌝ }
-    ensures { λ r. ⌜ Does (evictAll aesCipher direct (lent hi lo (now (mem .entry)) (now (macs .entry)) (now (cache .entry)) (now (dir .entry)))) true (countsIn r) (lent hi lo (now (mem .exit)) (now (macs .exit)) (now (cache .exit)) (now (dir .exit))) ⌝ }
+    ensures { λ r. ⌜ Does (evictAll aesCipher direct (lent hi lo (now (mem .entry)) (now (macs .entry))
+        (now (cache .entry)) (now (dir .entry)))) true (countsIn r) (lent hi lo (now (mem .exit)) (now (macs .exit))
+        (now (cache .exit)) (now (dir .exit))) ⌝ }
 {
     let n = dir.len();
-    let mut k = Counts {
-        filled: 0,
-        written: 0,
-        checked: 0,
-        made: 0,
-    };
+    let mut k = slots::none();
     let mut i: usize = 0;
     while i < n {
         let e = slots::evict(hi, lo, mem, macs, cache, dir, i);
@@ -80,8 +67,7 @@ fn lose(cache: &mut [u8], dir: &mut [u32], slot: usize)
     requires { ⌜ slot < length (now dir) ⌝ }
     ensures { λ _. ⌜ Loses slot (now (cache .entry)) (now (dir .entry)) (now (cache .exit)) (now (dir .exit)) ⌝ }
 {
-    let d = dir[slot];
-    if d % 2 == 1 {
+    if number::used(dir[slot]) {
         slots::empty(cache, dir, slot);
     }
 }

@@ -14,7 +14,7 @@ use Rattle.model.specs.Placement.{holding}
 use Rattle.model.specs.PlacementLaws.{PlacementLaws}
 use Rattle.directory.specs.Numbers.{usedOf, dirtyOf, lineOf, entryOf, numberOf, isNumber}
 use Rattle.directory.specs.Direct.{direct, fine, OrderlyDirect}
-use Rattle.directory.proofs.NumberLaws.{entry-number, Right, fine-used, number-fine}
+use Rattle.directory.proofs.NumberLaws.{entry-number, Right, fine-used, fine-unused, zero-fine, number-fine}
 
 module _ {N : ℕ} (d : List ℕ) (p : ℕ) (o : OrderlyDirect N d) (hp : p < length d) where
   -- a number put into a slot where it is right keeps the directory orderly
@@ -33,18 +33,6 @@ module _ {N : ℕ} (d : List ℕ) (p : ℕ) (o : OrderlyDirect N d) (hp : p < le
 
   pub right : usedOf (getD d p 0) ≡ true → Right N (length d) p (getD d p 0)
   right u = fine-used N (length d) p (getD d p 0) (o .numbers p hp) u
-
--- an unused number of an orderly directory is 0
-pub fine-unused : (N C p d : ℕ) → fine N C p d ≡ true → usedOf d ≡ false → d ≡ 0
-unfolding fine isNumber
-fine-unused N C p d h u =
-    let n : (eqb d 0 || (usedOf d && (leb (d / 2 % 4) 2 && ltb d 16384))) ≡ true = both-hold (isNumber d) (eqb d 0 || (eqb (lineOf d % C) p && (ltb (lineOf d) N && not (eqb (d / 2 % 4) 1 && dirtyOf d)))) h .0 in
-    by-test (eqb d 0) (λ e. eqb-true d 0 e) (λ e. absurd (false≢true (rw (e, u) at n)))
-
--- an empty number is right in every slot
-pub zero-fine : (N C p : ℕ) → fine N C p 0 ≡ true
-unfolding fine isNumber
-zero-fine N C p = refl
 
 pub zero-unused : usedOf 0 ≡ false
 unfolding usedOf
@@ -70,12 +58,17 @@ direct-laws =
       clear-length = λ d p. length-set d p 0;
       clear-here = λ d p hp. rw (getD-set-same d p 0 0 hp) zero-unused;
       clear-other = λ d p q a. rw (getD-set-other d p q 0 0 a);
-      clear-orderly = λ {N} d p o hp. set-orderly d p o hp 0 (zero-fine N (length d) p);
+      clear-orderly = λ {N} d p o hp. set-orderly d p o hp 0 (zero-fine N (length d) p 0 refl);
       clear-mine = λ {N} d n p q o hq m. rw (length-set d q 0) m;
       put-length = λ d p e. length-set d p (numberOf e);
-      put-here = λ {N} d n p t b o hp hn. rw (getD-set-same d p (numberOf (holding n t b)) 0 hp) (entry-number n t b (omega (arith, o .lines)));
+      put-here =
+          λ {N} d n p t b o hp hn.
+          rw (getD-set-same d p (numberOf (holding n t b)) 0 hp) (entry-number n t b (omega (arith, o .lines)));
       put-other = λ d p q e a. rw (getD-set-other d p q (numberOf e) 0 a);
-      put-orderly = λ {N} d n p t b o hp hn m h. set-orderly d p o hp (numberOf (holding n t b)) (number-fine N (length d) p n t b (o .lines) hn (sym m) h);
+      put-orderly =
+          λ {N} d n p t b o hp hn m h.
+          set-orderly d p o hp (numberOf (holding n t b))
+          (number-fine N (length d) p n t b (o .lines) hn (sym m) h);
       put-mine = λ {N} d n p t b o hp hn m. rw (length-set d p (numberOf (holding n t b))) m;
       touch-length = λ d p. refl;
       touch-look = λ d p q. refl;

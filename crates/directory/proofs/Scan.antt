@@ -9,10 +9,11 @@ use Rattle.lists.specs.Bytes.{zeros}
 use Rattle.lists.proofs.ByteLaws.{length-zeros, getD-zeros}
 use Rattle.lists.proofs.Cases.{both-hold}
 use Rattle.directory.specs.Direct.{fine, allFine, OrderlyDirect}
-use Rattle.directory.proofs.DirectLaws.{zero-fine}
+use Rattle.directory.proofs.NumberLaws.{zero-fine}
 
 -- the scan from slot p on passed: each number is right
-scan-each : (N C p : ℕ) (ds : List ℕ) → allFine N C p ds ≡ true → (i : ℕ) → i < length ds → fine N C (p + i) (getD ds i 0) ≡ true
+scan-each : (N C p : ℕ) (ds : List ℕ) → allFine N C p ds ≡ true → (i : ℕ) → i < length ds
+    → fine N C (p + i) (getD ds i 0) ≡ true
 unfolding allFine
 scan-each N C p [] h i l = absurd (omega arith)
 scan-each N C p (d ∷ ds) h zero l =
@@ -23,7 +24,8 @@ scan-each N C p (d ∷ ds) h (suc i) l =
     rw (← e) (scan-each N C (p + 1) ds (both-hold (fine N C p d) (allFine N C (p + 1) ds) h .1) i (omega arith))
 
 -- each number is right: the scan passes
-each-scan : (N C p : ℕ) (ds : List ℕ) → ((i : ℕ) → i < length ds → fine N C (p + i) (getD ds i 0) ≡ true) → allFine N C p ds ≡ true
+each-scan : (N C p : ℕ) (ds : List ℕ) → ((i : ℕ) → i < length ds → fine N C (p + i) (getD ds i 0) ≡ true)
+    → allFine N C p ds ≡ true
 unfolding allFine
 each-scan N C p [] h = refl
 each-scan N C p (d ∷ ds) h =
@@ -34,7 +36,9 @@ each-scan N C p (d ∷ ds) h =
     let q : p + 1 + i ≡ p + suc i = omega arith in
     rw q (h (suc i) (omega arith))))
 
-pub scan-orderly : (N : ℕ) (dir : List ℕ) → 0 < length dir → N ≤ 1024 → allFine N (length dir) 0 dir ≡ true → OrderlyDirect N dir
+pub scan-orderly : (N : ℕ) (dir : List ℕ) → 0 < length dir → N ≤ 1024
+    → allFine N (length dir) 0 dir ≡ true
+    → OrderlyDirect N dir
 scan-orderly N dir s l h =
     record {
       slots = s;
@@ -59,5 +63,5 @@ zeros-orderly N C h l =
     record {
       slots = rw (length-zeros C) h;
       lines = l;
-      numbers = λ p hp. rw (getD-zeros C p (rw (length-zeros C) at hp)) (zero-fine N (length (zeros C)) p);
+      numbers = λ p hp. rw (getD-zeros C p (rw (length-zeros C) at hp)) (zero-fine N (length (zeros C)) p 0 refl);
     }

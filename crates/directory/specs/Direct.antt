@@ -1,4 +1,5 @@
--- The placement of document 01: line n may sit only in slot n mod C, C being the directory's length. Which directories refusal 104 lets pass.
+-- The placement of document 01: line n may sit only in slot n mod C, C being the directory's length.
+-- Which directories refusal 104 lets pass.
 use Prim.Native.Nat.{ℕ, _+_, _/_, _%_, _<_, _≤_}
 use mathlib.Core.Path.{_≡_}
 use mathlib.Core.Bool.{Bool, true, _&&_, _||_, not}
@@ -19,7 +20,8 @@ direct =
       touch = λ d p. d;
     }
 
--- is the number right in slot p of C, for a memory of N lines: as above, with its line in the right slot and below N, and tag 1 not dirty?
+-- is the number right in slot p of C, for a memory of N lines: a directory number, with its line in the right slot
+-- and below N, and tag 1 not dirty?
 unfoldable pub fine : ℕ → ℕ → ℕ → ℕ → Bool
 fine N C p d =
     isNumber d && (eqb d 0 || (eqb (lineOf d % C) p && (ltb (lineOf d) N && not (eqb (d / 2 % 4) 1 && dirtyOf d))))

@@ -1,1 +1,3 @@
-// The packed numbers of the cache's directory and the placement 'line n in slot n mod C': definitions and laws only, no code.
+// The cache's directory: its packed numbers, and which line may sit in which slot. Nobody else knows either.
+pub mod number;
+pub mod place;

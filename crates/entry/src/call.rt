@@ -29,16 +29,6 @@ pub fn line(mem: usize, n: u64) -> u32
     0
 }
 
-// 107 where a buffer of so many bytes is not one of k.
-pub fn buffer(len: usize, k: usize) -> u32
-    ensures { λ r. ⌜ r ≡ firstOf ((not (eqb len k), 107) ∷ []) ⌝ }
-{
-    if len != k {
-        return 107;
-    }
-    0
-}
-
 // 106 or 107 of a call over the bus.
 pub fn transfer(mem: usize, n: u64, len: usize, k: usize) -> u32
     ensures { λ r. ⌜ r ≡ firstOf (lineFlaws mem n ++ ((not (eqb len k), 107) ∷ [])) ⌝ }

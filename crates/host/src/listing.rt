@@ -1,9 +1,10 @@
 // The listing, by value: its refusal, and the record of each slot.
 use crate::answer;
+use directory::number;
 use registers::record::Processor;
 ghost use mathlib.Core.Path.{_≡_};
-ghost use Rattle.model.specs.Tags.{tagNumber};
-ghost use Rattle.directory.specs.Numbers.{entryOf, tagOf};
+ghost use Rattle.lists.specs.If.{if};
+ghost use Rattle.directory.specs.Numbers.{entryOf};
 ghost use Rattle.directory.specs.Direct.{direct};
 ghost use Rattle.instructions.specs.Board.{documentBoard};
 ghost use Rattle.instructions.specs.Listing.{listingRefusal};
@@ -27,15 +28,14 @@ pub fn refusal(p: Processor, mem: &[u8], macs: &[u8], cache: &[u8], dir: &[u32],
     answer::refusal(p, mem.len(), macs.len(), cache.len(), dir, own)
 }
 
-// The tag's number in a directory number; there is no tag 3.
-fn tag_of(d: u32) -> u32
-    ensures { λ r. ⌜ r ≡ tagNumber (tagOf d) ⌝ }
+// 1 where the test holds, 0 where it does not.
+fn bit(test: bool) -> u32
+    ensures { λ r. ⌜ r ≡ if test 1 0 ⌝ }
 {
-    let tag = d / 2 % 4;
-    if tag == 3 {
-        return 0;
+    if test {
+        return 1;
     }
-    tag
+    0
 }
 
 // What a directory number says.
@@ -43,10 +43,10 @@ fn row_of(d: u32) -> LineRecord
     ensures { λ r. ⌜ r ≡ rowOf (entryOf d) ⌝ }
 {
     LineRecord {
-        used: d % 2,
-        line: d / 16 % 1024,
-        tag: tag_of(d),
-        dirty: d / 8 % 2,
+        used: bit(number::used(d)),
+        line: number::line(d),
+        tag: number::tag(d),
+        dirty: bit(number::dirty(d)),
     }
 }
 

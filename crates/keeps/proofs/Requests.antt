@@ -13,10 +13,13 @@ use Rattle.model.specs.CipherLaws.{CipherLaws}
 use Rattle.model.specs.Lines.{putLine, putMac}
 use Rattle.model.specs.Placement.{Placement}
 use Rattle.model.specs.PlacementLaws.{PlacementLaws}
-use Rattle.model.specs.Requests.{Request, access, evict, busRead, busWrite, busMac, writeBack, rekey, Prog, ret, ask, perform}
-use Rattle.model.specs.Cached.{Cached, holds, evictPlace, evictLine, evictFrom, evictAll, thenDo, cachedHandle, cached, losePlace, loseFrom, loseAll}
+use Rattle.model.specs.Requests.{Request, access, evict, busRead, busWrite, busMac, writeBack, rekey, Prog, ret, ask}
+use Rattle.model.specs.Requests.{perform}
+use Rattle.model.specs.Cached.{Cached, holds, evictPlace, evictLine, evictFrom, evictAll, thenDo, cachedHandle, cached}
+use Rattle.model.specs.Cached.{losePlace, loseFrom, loseAll}
 use Rattle.keeps.specs.Good.{Good}
-use Rattle.keeps.specs.Sound.{Fair, fair-access, fair-evict, fair-busRead, fair-busWrite, fair-busMac, fair-writeBack, fair-rekey, Sound, sound-ret, sound-ask}
+use Rattle.keeps.specs.Sound.{Fair, fair-access, fair-evict, fair-busRead, fair-busWrite, fair-busMac}
+use Rattle.keeps.specs.Sound.{fair-writeBack, fair-rekey, Sound, sound-ret, sound-ask}
 use Rattle.keeps.proofs.Evict.{evict-length, evict-good}
 use Rattle.keeps.proofs.Access.{chosen-placed, access-good}
 
@@ -28,20 +31,24 @@ module _ (c : Cipher) (CL : CipherLaws c) (P : Placement) (L : PlacementLaws P) 
       (λ h. rw h (evict-good c CL P L N C s (P .choose (s .dir) n) G (L .choose-place (s .dir) n (G .orderly) hn)))
       (λ h. rw h G)
 
-  from-good : (k p : ℕ) (s : Cached) → p + k ≡ length (s .dir) → Good P L N C s → Good P L N C (evictFrom c P k p s .state)
+  from-good : (k p : ℕ) (s : Cached) → p + k ≡ length (s .dir) → Good P L N C s
+      → Good P L N C (evictFrom c P k p s .state)
   unfolding evictFrom thenDo
   from-good zero p s e G = G
   from-good (suc k) p s e G =
-      from-good k (p + 1) (evictPlace c P p s .state) (rw (evict-length c CL P L N C s p) (omega arith)) (evict-good c CL P L N C s p G (omega arith))
+      from-good k (p + 1) (evictPlace c P p s .state) (rw (evict-length c CL P L N C s p) (omega arith))
+      (evict-good c CL P L N C s p G (omega arith))
 
   pub all-good : (s : Cached) → Good P L N C s → Good P L N C (evictAll c P s .state)
   unfolding evictAll
   all-good s G = from-good (length (s .dir)) 0 s (omega arith) G
 
-  pub handle-good : (q : Request) (s : Cached) → Fair N q → Good P L N C s → Good P L N C (cachedHandle c P q s .state)
+  pub handle-good : (q : Request) (s : Cached) → Fair N q → Good P L N C s
+      → Good P L N C (cachedHandle c P q s .state)
   unfolding cachedHandle putLine putMac
   handle-good (access tag n write change) s (fair-access hn t z b) G =
-      access-good c CL P L N C s tag n (P .choose (s .dir) n) write change hn t z (chosen-placed c CL P L N C s n (P .choose (s .dir) n) G hn refl)
+      access-good c CL P L N C s tag n (P .choose (s .dir) n) write change hn t z
+      (chosen-placed c CL P L N C s n (P .choose (s .dir) n) G hn refl)
   handle-good (evict n) s (fair-evict hn) G = drop-good s n hn G
   handle-good (busRead n) s (fair-busRead hn) G = drop-good s n hn G
   handle-good (busWrite n x) s (fair-busWrite hn z) G =
@@ -67,7 +74,8 @@ module _ (c : Cipher) (CL : CipherLaws c) (P : Placement) (L : PlacementLaws P) 
       let D = all-good s G in
       record { mem = D .mem; macs = D .macs; cache = D .cache; places = D .places; orderly = D .orderly }
 
-  pub perform-good : {Out : Type 0} (q : Prog Out) (s : Cached) → Sound N q → Good P L N C s → Good P L N C (perform (cached c P) q s .state)
+  pub perform-good : {Out : Type 0} (q : Prog Out) (s : Cached) → Sound N q → Good P L N C s
+      → Good P L N C (perform (cached c P) q s .state)
   unfolding perform cached
   perform-good (ret o) s sound-ret G = G
   perform-good (ask q k) s (sound-ask f g) G =
@@ -84,7 +92,8 @@ module _ (c : Cipher) (CL : CipherLaws c) (P : Placement) (L : PlacementLaws P) 
       (record {
         mem = G .mem;
         macs = G .macs;
-        cache = rw (L .clear-length (s .dir) p) (nth-put-length 64 (length (s .dir)) (s .cache) (G .cache) true p (zeros 64) hp (length-zeros 64));
+        cache = rw (L .clear-length (s .dir) p) (nth-put-length 64 (length (s .dir)) (s .cache) (G .cache) true p
+            (zeros 64) hp (length-zeros 64));
         places = L .clear-length (s .dir) p ∙ G .places;
         orderly = L .clear-orderly (s .dir) p (G .orderly) hp;
       }))
@@ -94,10 +103,12 @@ module _ (c : Cipher) (CL : CipherLaws c) (P : Placement) (L : PlacementLaws P) 
   unfolding losePlace
   lose-length s p = by-test (P .look (s .dir) p .used) (λ h. rw h (L .clear-length (s .dir) p)) (λ h. rw h)
 
-  lose-from-good : (k p : ℕ) (s : Cached) → p + k ≡ length (s .dir) → Good P L N C s → Good P L N C (loseFrom P k p s)
+  lose-from-good : (k p : ℕ) (s : Cached) → p + k ≡ length (s .dir) → Good P L N C s
+      → Good P L N C (loseFrom P k p s)
   unfolding loseFrom
   lose-from-good zero p s e G = G
-  lose-from-good (suc k) p s e G = lose-from-good k (p + 1) (losePlace P p s) (rw (lose-length s p) (omega arith)) (lose-good s p (omega arith) G)
+  lose-from-good (suc k) p s e G = lose-from-good k (p + 1) (losePlace P p s) (rw (lose-length s p) (omega arith))
+      (lose-good s p (omega arith) G)
 
   pub cut-good : (s : Cached) → Good P L N C s → Good P L N C (loseAll P s)
   unfolding loseAll

@@ -1,4 +1,5 @@
--- What refusals 101 to 104 let pass, for N lines and C slots: right sizes and an orderly directory. Every request keeps it, whatever else was lent.
+-- What refusals 101 to 104 let pass, for N lines and C slots: right sizes and an orderly directory. Every request keeps
+-- it, whatever else was lent.
 use Prim.Native.Nat.{ℕ, _*_}
 use mathlib.Core.Path.{_≡_}
 use lib.ListN.{length}

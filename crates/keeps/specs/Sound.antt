@@ -7,11 +7,15 @@ use lib.ListN.{length}
 use Rattle.lists.specs.Bytes.{Bytes}
 use Rattle.model.specs.Tags.{Tag, secureInstruction}
 use Rattle.model.specs.CipherLaws.{Sized}
-use Rattle.model.specs.Requests.{Request, access, evict, busRead, busWrite, busMac, writeBack, rekey, Reply, Prog, ret, ask}
+use Rattle.model.specs.Requests.{Request, access, evict, busRead, busWrite, busMac, writeBack, rekey, Reply, Prog, ret}
+use Rattle.model.specs.Requests.{ask}
 
 -- what is asked of a request to a memory of N lines
 pub data Fair (N : ℕ) : Request → Type 0 where
-  fair-access : {tag : Tag} {n : ℕ} {write : Bool} {change : List ℕ → List ℕ} → n < N → (write ≡ true → tag ≡ secureInstruction → ⊥) → ((l : List ℕ) → length l ≡ 64 → length (change l) ≡ 64) → ((l : List ℕ) → Bytes l → Bytes (change l)) → Fair N (access tag n write change)
+  fair-access : {tag : Tag} {n : ℕ} {write : Bool} {change : List ℕ → List ℕ} → n < N
+      → (write ≡ true → tag ≡ secureInstruction → ⊥)
+      → ((l : List ℕ) → length l ≡ 64 → length (change l) ≡ 64)
+      → ((l : List ℕ) → Bytes l → Bytes (change l)) → Fair N (access tag n write change)
   fair-evict : {n : ℕ} → n < N → Fair N (evict n)
   fair-busRead : {n : ℕ} → n < N → Fair N (busRead n)
   fair-busWrite : {n : ℕ} {x : List ℕ} → n < N → Sized 64 x → Fair N (busWrite n x)
@@ -22,4 +26,5 @@ pub data Fair (N : ℕ) : Request → Type 0 where
 -- every request that the program may come to is fair, whatever the replies
 pub data Sound (N : ℕ) {Out : Type 0} : Prog Out → Type 0 where
   sound-ret : {o : Out} → Sound N (ret o)
-  sound-ask : {q : Request} {k : Reply → Prog Out} → Fair N q → ((r : Reply) → Sound N (k r)) → Sound N (ask q k)
+  sound-ask : {q : Request} {k : Reply → Prog Out} → Fair N q → ((r : Reply) → Sound N (k r))
+      → Sound N (ask q k)

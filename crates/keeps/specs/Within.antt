@@ -1,4 +1,5 @@
--- How much a log may count: at most f lines filled and at most w written, no more MACs checked than lines filled, no more made than written.
+-- How much a log may count: at most f lines filled and at most w written, no more MACs checked than lines filled, no
+-- more made than written.
 use Prim.Native.Nat.{ℕ, _≤_}
 use mathlib.Core.List.{List}
 use Rattle.model.specs.Log.{Note, countsOf}

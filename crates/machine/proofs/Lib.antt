@@ -1,5 +1,5 @@
 -- The laws of `machine`, file by file.
-pub mod WordsLaws
+pub mod InsideLaws
 pub mod Serving
 pub mod Granted
 pub mod Stepping

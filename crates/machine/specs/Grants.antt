@@ -1,19 +1,19 @@
 -- What a memory phase promises: what the cached memory makes of a wish, its counts being the sums over the notes.
 use Prim.Native.Nat.{ℕ, _+_, _*_, _/_, _%_, _<_, _≤_}
 use mathlib.Core.Path.{_≡_}
-use mathlib.Core.Bool.{Bool, false}
+use mathlib.Core.Bool.{Bool}
 use mathlib.Core.List.{List}
-use lib.ListN.{set}
-use lib.Dec.{eqb}
 use Rattle.lists.specs.Parts.{partAt, putAt}
 use Rattle.lists.specs.Words.{little, littleBytes}
 use Rattle.lists.specs.If.{if}
-use Rattle.model.specs.Tags.{Tag, noTag, secureInstruction}
+use Rattle.model.specs.Tags.{tagNamed}
 use Rattle.model.specs.Log.{Counts, countsOf}
+use Rattle.model.specs.Placement.{holding}
 use Rattle.model.specs.Requests.{perform}
 use Rattle.model.specs.Cached.{Cached, cached}
 use Rattle.directory.specs.Direct.{direct}
-use Rattle.instructions.specs.Wishes.{Wish, idle, word, grant}
+use Rattle.instructions.specs.Wishes.{Wish, grant}
+unfoldable pub use Rattle.instructions.specs.Step.{fetchOf}
 use Rattle.ciphers.specs.Cipher.{aesCipher}
 
 -- did the line's check fail, the number that stood there, the counts and the next memory
@@ -24,8 +24,16 @@ pub record Grants (wish : Wish) (s : Cached) (failed : Bool) (number : ℕ) (k :
   pub left : t ≡ perform (cached aesCipher direct) (grant wish) s .state
 
 -- the same but for the key, which the code keeps in its record: the buffers are those of the next memory
-pub record Obtains (wish : Wish) (s : Cached) (failed : Bool) (number : ℕ) (k : Counts) (mem macs cache dir : List ℕ) : Type 0 where
-  pub grants : Grants wish s failed number k (record { key = perform (cached aesCipher direct) (grant wish) s .state .key; mem = mem; macs = macs; cache = cache; dir = dir })
+pub record Obtains (wish : Wish) (s : Cached) (failed : Bool) (number : ℕ) (k : Counts)
+    (mem macs cache dir : List ℕ) : Type 0 where
+  pub grants : Grants wish s failed number k
+      (record {
+        key = perform (cached aesCipher direct) (grant wish) s .state .key;
+        mem = mem;
+        macs = macs;
+        cache = cache;
+        dir = dir;
+      })
 
 -- k bytes at an address lie in one line of a memory of M bytes
 pub record Inside (a k M : ℕ) : Type 0 where
@@ -33,11 +41,8 @@ pub record Inside (a k M : ℕ) : Type 0 where
   pub place : a % 64 + k ≤ 64
 
 -- the word at a place of a slot is read, and where the test says so written, which makes the slot dirty
-pub record Touches (slot at tag n : ℕ) (write : Bool) (v r : ℕ) (cache dir cache′ dir′ : List ℕ) : Type 0 where
-  pub number : r ≡ little (partAt (slot * 64 + at) 8 cache)
-  pub bytes : cache′ ≡ if write (putAt (slot * 64 + at) 8 (littleBytes 8 v) cache) cache
-  pub marks : dir′ ≡ if write (set dir slot (9 + 2 * tag + 16 * n)) dir
-
--- the wish of a fetch: nothing where it faulted, and otherwise the instruction word at pc, as signed code in active mode
-unfoldable pub fetchOf : ℕ → ℕ → ℕ → Wish
-fetchOf fault mode pc = if (eqb fault 0) (word (if (eqb mode 1) secureInstruction noTag) pc 4 false 0) idle
+pub record Touches (slot at tag n : ℕ) (write : Bool) (v r : ℕ) (cache dir cache′ dir′ : List ℕ) : Type 0
+  where
+    pub number : r ≡ little (partAt (slot * 64 + at) 8 cache)
+    pub bytes : cache′ ≡ if write (putAt (slot * 64 + at) 8 (littleBytes 8 v) cache) cache
+    pub marks : dir′ ≡ if write (direct .put dir slot (holding n (tagNamed tag) true)) dir

@@ -3,4 +3,3 @@ pub mod answer;
 pub mod phase;
 pub mod run;
 pub mod step;
-mod words;

@@ -1,9 +1,10 @@
 // The two memory phases of a step: the fetch, and the data access.
-use crate::words;
 use cache::slots;
 use cache::slots::Counts;
 use cache::slots::Ready;
 use cache::whole;
+use directory::number;
+use directory::place;
 use registers::decide::Wanted;
 ghost use mathlib.Core.Path.{_≡_};
 ghost use mathlib.Core.Bool.{Bool, true, false};
@@ -20,6 +21,7 @@ ghost use Rattle.ciphers.specs.Cipher.{aesCipher};
 ghost use Rattle.cache.specs.Lent.{lent, countsIn, Fit};
 ghost use Rattle.cache.specs.Does.{Does};
 ghost use Rattle.machine.specs.Grants.{Grants, Obtains, Inside, Touches, fetchOf};
+ghost use Rattle.machine.specs.Found.{foundWith};
 ghost use Rattle.registers.specs.Wanted.{wishOf};
 ghost use lib.Dec.{eqb};
 
@@ -30,15 +32,15 @@ pub struct Found {
     pub counts: Counts,
 }
 
-// Does a directory number serve an access to line n under the tag?
-fn serving(d: u32, tag: u32, n: usize) -> bool
-    requires { ⌜ (tag ≤ 2) × (d / 2 % 4 ≤ 2) ⌝ }
-    ensures { λ r. ⌜ r ≡ serves (entryOf d) (tagNamed tag) n ⌝ }
+// What came of it, put together.
+fn came(failed: bool, number: u64, counts: Counts) -> Found
+    ensures { λ r. ⌜ r ≡ foundWith failed number counts ⌝ }
 {
-    if d % 8 != 1 + 2 * tag {
-        return false;
+    Found {
+        failed,
+        number,
+        counts,
     }
-    (d / 16 % 1024) as usize == n
 }
 
 // The tag of a fetch: Secure Instruction in active mode.
@@ -65,18 +67,16 @@ fn ready_code(
 ) -> Ready
     requires { ⌜ Fit (lent hi lo (now mem) (now macs) (now cache) (now dir)) ⌝ }
     requires { ⌜ (slot < length (now dir)) × (n < length (now mem) / 64) × (tag ≤ 2) ⌝ }
-    ensures { λ r. ⌜ Does (readyPlace aesCipher direct (tagNamed tag) n slot (lent hi lo (now (mem .entry)) (now (macs .entry)) (now (cache .entry)) (now (dir .entry)))) (r .ok) (countsIn (r .counts)) (lent hi lo (now (mem .exit)) (now (macs .exit)) (now (cache .exit)) (now (dir .exit))) ⌝ }
+    ensures { λ r. ⌜ Does (readyPlace aesCipher direct (tagNamed tag) n slot
+        (lent hi lo (now (mem .entry)) (now (macs .entry)) (now (cache .entry)) (now (dir .entry)))) (r .ok)
+        (countsIn (r .counts)) (lent hi lo (now (mem .exit)) (now (macs .exit)) (now (cache .exit)) (now (dir .exit)))
+        ⌝ }
 {
-    let d = dir[slot];
-    if serving(d, tag, n) {
+    if number::serves(dir[slot], tag, n) {
+        place::touch(dir, slot);
         return Ready {
             ok: true,
-            counts: Counts {
-                filled: 0,
-                written: 0,
-                checked: 0,
-                made: 0,
-            },
+            counts: slots::none(),
         };
     }
     slots::replace(hi, lo, mem, macs, cache, dir, tag, n, slot)
@@ -96,18 +96,16 @@ fn ready_data(
 ) -> Ready
     requires { ⌜ Fit (lent hi lo (now mem) (now macs) (now cache) (now dir)) ⌝ }
     requires { ⌜ (slot < length (now dir)) × (n < length (now mem) / 64) × (tag ≤ 2) ⌝ }
-    ensures { λ r. ⌜ Does (readyPlace aesCipher direct (tagNamed tag) n slot (lent hi lo (now (mem .entry)) (now (macs .entry)) (now (cache .entry)) (now (dir .entry)))) (r .ok) (countsIn (r .counts)) (lent hi lo (now (mem .exit)) (now (macs .exit)) (now (cache .exit)) (now (dir .exit))) ⌝ }
+    ensures { λ r. ⌜ Does (readyPlace aesCipher direct (tagNamed tag) n slot
+        (lent hi lo (now (mem .entry)) (now (macs .entry)) (now (cache .entry)) (now (dir .entry)))) (r .ok)
+        (countsIn (r .counts)) (lent hi lo (now (mem .exit)) (now (macs .exit)) (now (cache .exit)) (now (dir .exit)))
+        ⌝ }
 {
-    let d = dir[slot];
-    if serving(d, tag, n) {
+    if number::serves(dir[slot], tag, n) {
+        place::touch(dir, slot);
         return Ready {
             ok: true,
-            counts: Counts {
-                filled: 0,
-                written: 0,
-                checked: 0,
-                made: 0,
-            },
+            counts: slots::none(),
         };
     }
     slots::replace(hi, lo, mem, macs, cache, dir, tag, n, slot)
@@ -127,38 +125,23 @@ pub fn fetch(
 ) -> Found
     requires { ⌜ Fit (lent hi lo (now mem) (now macs) (now cache) (now dir)) ⌝ }
     requires { ⌜ (fault ≡ 0 → Inside pc 4 (length (now mem))) ⌝ }
-    ensures { λ r. ⌜ Grants (fetchOf fault mode pc) (lent hi lo (now (mem .entry)) (now (macs .entry)) (now (cache .entry)) (now (dir .entry))) (r .failed) (r .number) (countsIn (r .counts)) (lent hi lo (now (mem .exit)) (now (macs .exit)) (now (cache .exit)) (now (dir .exit))) ⌝ }
+    ensures { λ r. ⌜ Grants (fetchOf fault mode pc) (lent hi lo (now (mem .entry)) (now (macs .entry))
+        (now (cache .entry)) (now (dir .entry))) (r .failed) (r .number) (countsIn (r .counts))
+        (lent hi lo (now (mem .exit)) (now (macs .exit)) (now (cache .exit)) (now (dir .exit))) ⌝ }
 {
     if fault != 0 {
-        return Found {
-            failed: false,
-            number: 0,
-            counts: Counts {
-                filled: 0,
-                written: 0,
-                checked: 0,
-                made: 0,
-            },
-        };
+        return came(false, 0, slots::none());
     }
     let tag = code_tag(mode);
     let n = (pc / 64) as usize;
-    let slot = n % dir.len();
+    let slot = place::choose(dir, n);
     let r = ready_code(hi, lo, mem, macs, cache, dir, tag, n, slot);
     let k = r.counts;
     if r.ok {
         let v = words::read_four(cache, slot * 64 + (pc % 64) as usize);
-        return Found {
-            failed: false,
-            number: v,
-            counts: k,
-        };
+        return came(false, v, k);
     }
-    Found {
-        failed: true,
-        number: 0,
-        counts: k,
-    }
+    came(true, 0, k)
 }
 
 // The word at a place of a slot is read and, where the test says so, written: the slot is then dirty.
@@ -172,14 +155,16 @@ fn touch(
     write: bool,
     v: u64,
 ) -> u64
-    requires { ⌜ (slot < length (now dir)) × (length (now cache) ≡ length (now dir) * 64) × (at + 8 ≤ 64) × (tag ≤ 2) × (n ≤ 1024) ⌝ }
-    ensures { λ r. ⌜ Touches slot at tag n write v r (now (cache .entry)) (now (dir .entry)) (now (cache .exit)) (now (dir .exit)) ⌝ }
+    requires { ⌜ (slot < length (now dir)) × (length (now cache) ≡ length (now dir) * 64) × (at + 8 ≤ 64)
+        × (tag ≤ 2) × (n ≤ 1024) ⌝ }
+    ensures { λ r. ⌜ Touches slot at tag n write v r (now (cache .entry)) (now (dir .entry)) (now (cache .exit))
+        (now (dir .exit)) ⌝ }
 {
     let i = slot * 64 + at;
     let x = words::read_eight(cache, i);
     if write {
         words::write_eight(cache, i, v);
-        dir[slot] = 9 + 2 * tag + 16 * (n as u32);
+        place::put(dir, slot, n, tag, true);
         return x;
     }
     x
@@ -198,53 +183,26 @@ pub fn access(
     requires { ⌜ Fit (lent hi lo (now mem) (now macs) (now cache) (now dir)) ⌝ }
     requires { ⌜ (q .kind ≡ 1 → Inside (q .address) 8 (length (now mem))) ⌝ }
     requires { ⌜ q .tag ≤ 2 ⌝ }
-    ensures { λ r. ⌜ Obtains (wishOf q) (lent hi lo (now (mem .entry)) (now (macs .entry)) (now (cache .entry)) (now (dir .entry))) (r .failed) (r .number) (countsIn (r .counts)) (now (mem .exit)) (now (macs .exit)) (now (cache .exit)) (now (dir .exit)) ⌝ }
+    ensures { λ r. ⌜ Obtains (wishOf q) (lent hi lo (now (mem .entry)) (now (macs .entry)) (now (cache .entry))
+        (now (dir .entry))) (r .failed) (r .number) (countsIn (r .counts)) (now (mem .exit)) (now (macs .exit))
+        (now (cache .exit)) (now (dir .exit)) ⌝ }
 {
     let kind = q.kind;
     if kind == 2 {
         let k = whole::evict_all(hi, lo, mem, macs, cache, dir);
-        return Found {
-            failed: false,
-            number: 0,
-            counts: k,
-        };
+        return came(false, 0, k);
     }
     if kind != 1 {
-        return Found {
-            failed: false,
-            number: 0,
-            counts: Counts {
-                filled: 0,
-                written: 0,
-                checked: 0,
-                made: 0,
-            },
-        };
+        return came(false, 0, slots::none());
     }
     let n = (q.address / 64) as usize;
-    let slot = n % dir.len();
+    let slot = place::choose(dir, n);
     let r = ready_data(hi, lo, mem, macs, cache, dir, q.tag, n, slot);
     let k = r.counts;
     if r.ok {
-        let v = touch(
-            cache,
-            dir,
-            slot,
-            (q.address % 64) as usize,
-            q.tag,
-            n,
-            q.write,
-            q.value,
-        );
-        return Found {
-            failed: false,
-            number: v,
-            counts: k,
-        };
+        let at = (q.address % 64) as usize;
+        let v = touch(cache, dir, slot, at, q.tag, n, q.write, q.value);
+        return came(false, v, k);
     }
-    Found {
-        failed: true,
-        number: 0,
-        counts: k,
-    }
+    came(true, 0, k)
 }

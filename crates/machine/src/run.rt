@@ -37,15 +37,13 @@ pub fn steps(
     requires { ⌜ now t ≡ opcodeTable ⌝ }
     requires { ⌜ (128 ≤ length (now mem)) × (length (now dir) ≤ 64) × (n ≤ 10000) ⌝ }
     requires { ⌜ Fit (lent (q .drkhi) (q .drklo) (now mem) (now macs) (now cache) (now dir)) ⌝ }
-    ensures { λ x. ⌜ Runs n (machineOf (now (r .entry)) q (now (mem .entry)) (now (macs .entry)) (now (cache .entry)) (now (dir .entry))) (x .answer) (x .steps) (countsIn (x .counts)) (machineOf (now (r .exit)) (x .special) (now (mem .exit)) (now (macs .exit)) (now (cache .exit)) (now (dir .exit))) ⌝ }
+    ensures { λ x. ⌜ Runs n (machineOf (now (r .entry)) q (now (mem .entry)) (now (macs .entry)) (now (cache .entry))
+        (now (dir .entry))) (x .answer) (x .steps) (countsIn (x .counts))
+        (machineOf (now (r .exit)) (x .special) (now (mem .exit)) (now (macs .exit)) (now (cache .exit))
+        (now (dir .exit))) ⌝ }
 {
     let mut s = q;
-    let mut k = Counts {
-        filled: 0,
-        written: 0,
-        checked: 0,
-        made: 0,
-    };
+    let mut k = slots::none();
     let mut answer: u64 = 0;
     let mut i: u64 = 0;
     let done = loop {

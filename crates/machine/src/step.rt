@@ -32,7 +32,9 @@ pub fn step(
     requires { ⌜ now t ≡ opcodeTable ⌝ }
     requires { ⌜ 128 ≤ length (now mem) ⌝ }
     requires { ⌜ Fit (lent (q .drkhi) (q .drklo) (now mem) (now macs) (now cache) (now dir)) ⌝ }
-    ensures { λ x. ⌜ Steps (machineOf (now (r .entry)) q (now (mem .entry)) (now (macs .entry)) (now (cache .entry)) (now (dir .entry))) (x .fault) (countsIn (x .counts)) (machineOf (now (r .exit)) (x .special) (now (mem .exit)) (now (macs .exit)) (now (cache .exit)) (now (dir .exit))) ⌝ }
+    ensures { λ x. ⌜ Steps (machineOf (now (r .entry)) q (now (mem .entry)) (now (macs .entry)) (now (cache .entry))
+        (now (dir .entry))) (x .fault) (countsIn (x .counts)) (machineOf (now (r .exit)) (x .special) (now (mem .exit))
+        (now (macs .exit)) (now (cache .exit)) (now (dir .exit))) ⌝ }
 {
     let m = mem.len() as u64;
     let hi = q.drkhi;

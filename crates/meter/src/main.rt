@@ -1,19 +1,18 @@
-// The meter: reads a board file and prints a cold and a warm sheet of its run, as text or CSV, for one cache or for several sizes, or the answers of its script.
-mod book;
-mod measuring;
-mod options;
-mod out;
-mod printing;
-mod rows;
+// The meter: reads a board file and prints a cold and a warm sheet of its run, as text or CSV, for one cache or for
+// several sizes, or the answers of its script.
 mod script;
-mod start;
+mod sizes;
 
 use board_file::board;
 use board_file::board::Board;
 use host::answer::Report;
 use libc::STDERR_FILENO;
 use libc::STDOUT_FILENO;
-use options::Options;
+use meter_options::Options;
+use meter_pages::book;
+use meter_pages::out;
+use meter_pages::printing;
+use meter_pages::rows;
 use sheets::running::Sheets;
 ghost use Rattle.board_file.specs.Boards.{Within};
 
@@ -32,7 +31,8 @@ fn refuse(path: &[u8], line: u64, error: u32) {
 fn usage() {
     io::write_all(
         STDERR_FILENO,
-        b"meter: the arguments are not understood\nusage: meter FILE [--csv] [--sizes] [--script] [--keep] [--drop LINE]\n",
+        b"meter: the arguments are not understood\n\
+        usage: meter FILE [--csv] [--sizes] [--script] [--keep] [--drop LINE]\n",
     );
 }
 
@@ -76,7 +76,7 @@ fn say_dropped(o: Options, dropped: Report) {
 fn third(text: &[u8], b: Board, o: Options)
     requires { ⌜ Within b ⌝ }
 {
-    let x = measuring::third(text, b, line_to_drop(o));
+    let x = meter_runs::third(text, b, line_to_drop(o));
     let dropped = x.dropped;
     let sheet = x.sheet;
     if o.csv {
@@ -94,12 +94,12 @@ fn show(text: &[u8], b: Board, o: Options)
     requires { ⌜ Within b ⌝ }
 {
     if o.sizes {
-        return rows::sizes(text, b, o.csv);
+        return sizes::all(text, b, o.csv);
     }
     if o.script {
         return script::run(text, b);
     }
-    both(b, measuring::both(text, b, b.slots), o.csv);
+    both(b, meter_runs::both(text, b, b.slots), o.csv);
     if o.keep {
         return third(text, b, o);
     }
@@ -114,7 +114,7 @@ fn measure(path: &[u8], text: &[u8], o: Options) {
     if b.error != 0 {
         return refuse(path, b.line, b.error);
     }
-    let l = measuring::laid(text, b);
+    let l = meter_runs::laid(text, b);
     if l.error != 0 {
         return refuse(path, l.line, l.error);
     }
@@ -141,7 +141,7 @@ fn file(path: &[u8], o: Options) {
 }
 
 fn main() {
-    let o = options::read();
+    let o = meter_options::read();
     if o.wrong {
         return usage();
     }

@@ -59,13 +59,15 @@ module _ (c : Cipher) (CL : CipherLaws c) (key : List ℕ) (n : ℕ) where
   stored-length secureInstruction l z = z
   stored-length secureData l z = CL .encipher-length key (n * 64) l z
 
-  pub signed-length : (t : Tag) (l m : List ℕ) → length l ≡ 64 → length m ≡ 16 → length (signed c t key n l m) ≡ 16
+  pub signed-length : (t : Tag) (l m : List ℕ) → length l ≡ 64 → length m ≡ 16
+      → length (signed c t key n l m) ≡ 16
   unfolding signed
   signed-length noTag l m z h = h
   signed-length secureInstruction l m z h = h
   signed-length secureData l m z h = CL .dataMac-length key (n * 64) l z
 
-  pub passes-signed : (t : Tag) (l m : List ℕ) → (t ≡ secureInstruction → ⊥) → passes c t key n l (signed c t key n l m) ≡ true
+  pub passes-signed : (t : Tag) (l m : List ℕ) → (t ≡ secureInstruction → ⊥)
+      → passes c t key n l (signed c t key n l m) ≡ true
   unfolding passes signed
   passes-signed noTag l m h = refl
   passes-signed secureInstruction l m h = absurd (h refl)
@@ -77,13 +79,21 @@ module _ (c : Cipher) (CL : CipherLaws c) (key : List ℕ) (k : Sized 16 key) (n
   unfolding seen
   seen-sized noTag l z = z
   seen-sized secureInstruction l z = z
-  seen-sized secureData l z = record { size = CL .decipher-length key (n * 64) l (z .size); bytes = CL .decipher-bytes key (n * 64) l k z }
+  seen-sized secureData l z = record {
+    size = CL .decipher-length key (n * 64) l (z .size);
+    bytes =
+        CL .decipher-bytes key (n * 64) l k z;
+  }
 
   pub stored-sized : (t : Tag) (l : List ℕ) → Sized 64 l → Sized 64 (stored c t key n l)
   unfolding stored
   stored-sized noTag l z = z
   stored-sized secureInstruction l z = z
-  stored-sized secureData l z = record { size = CL .encipher-length key (n * 64) l (z .size); bytes = CL .encipher-bytes key (n * 64) l k z }
+  stored-sized secureData l z = record {
+    size = CL .encipher-length key (n * 64) l (z .size);
+    bytes =
+        CL .encipher-bytes key (n * 64) l k z;
+  }
 
   pub seen-stored : (t : Tag) (l : List ℕ) → Sized 64 l → seen c t key n (stored c t key n l) ≡ l
   unfolding seen stored

@@ -18,17 +18,35 @@ module _ (c : Cipher) (tag : Tag) (n : ℕ) (change : List ℕ → List ℕ) (s 
   next = stored c tag (s .key) n (change (seen c tag (s .key) n line))
 
   -- a line whose check fails is neither read nor written
-  pub manual-failed : (write : Bool) → passes c tag (s .key) n line (macAt n (s .macs)) ≡ false → uncachedHandle c (access tag n write change) s ≡ record { reply = none; state = s; log = [] }
+  pub manual-failed : (write : Bool) → passes c tag (s .key) n line (macAt n (s .macs)) ≡ false
+      → uncachedHandle c (access tag n write change) s ≡ record { reply = none; state = s; log = [] }
   unfolding uncachedHandle
   manual-failed write h = rw h
 
   -- a line is read as the tag sees it
-  pub manual-read : passes c tag (s .key) n line (macAt n (s .macs)) ≡ true → uncachedHandle c (access tag n false change) s ≡ record { reply = some (seen c tag (s .key) n line); state = s; log = [] }
+  pub manual-read : passes c tag (s .key) n line (macAt n (s .macs)) ≡ true
+      → uncachedHandle c (access tag n false change) s ≡ record {
+        reply = some (seen c tag (s .key) n line);
+        state =
+            s;
+        log = [];
+      }
   unfolding uncachedHandle
   manual-read h = rw h
 
   -- a store opens, seals and signs the line again, there
-  pub manual-store : passes c tag (s .key) n line (macAt n (s .macs)) ≡ true → uncachedHandle c (access tag n true change) s ≡ record { reply = some (seen c tag (s .key) n line); state = record { key = s .key; mem = putLine n next (s .mem); macs = putMac n (signed c tag (s .key) n next (macAt n (s .macs))) (s .macs) }; log = [] }
+  pub manual-store : passes c tag (s .key) n line (macAt n (s .macs)) ≡ true
+      → uncachedHandle c (access tag n true change) s ≡ record {
+        reply = some (seen c tag (s .key) n line);
+        state =
+            record {
+              key = s .key;
+              mem = putLine n next (s .mem);
+              macs =
+                  putMac n (signed c tag (s .key) n next (macAt n (s .macs))) (s .macs);
+            };
+        log = [];
+      }
   unfolding uncachedHandle
   manual-store h = rw h
 

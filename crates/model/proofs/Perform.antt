@@ -8,7 +8,9 @@ use Rattle.model.specs.Requests.{Prog, ret, ask, andThen, Memory, Ran, p
 unfoldable pub followed : {A B S : Type 0} → Ran A S → Ran B S → Ran B S
 followed a b = record { out = b .out; state = b .state; log = a .log ++ b .log }
 
-pub perform-then : {A B S : Type 0} (M : Memory S) (p : Prog A) (f : A → Prog B) (s : S) → perform M (andThen p f) s ≡ followed (perform M p s) (perform M (f (perform M p s .out)) (perform M p s .state))
+pub perform-then : {A B S : Type 0} (M : Memory S) (p : Prog A) (f : A → Prog B) (s : S)
+    → perform M (andThen p f) s ≡ followed (perform M p s)
+    (perform M (f (perform M p s .out)) (perform M p s .state))
 unfolding perform andThen followed
 perform-then M (ret a) f s = refl
 perform-then M (ask q k) f s =
@@ -17,4 +19,5 @@ perform-then M (ask q k) f s =
     let b = perform M (f (a .out)) (a .state) in
     let ih = perform-then M (k (h .reply)) f (h .state) in
     ap (λ (r : Ran _ _). record { out = r .out; state = r .state; log = h .log ++ r .log }) ih
-    ∙ ap (λ (l : List Note). record { out = b .out; state = b .state; log = l }) (sym (append-assoc (h .log) (a .log) (b .log)))
+    ∙ ap (λ (l : List Note). record { out = b .out; state = b .state; log = l })
+    (sym (append-assoc (h .log) (a .log) (b .log)))

@@ -29,16 +29,29 @@ plus-assoc x y z =
 pub counts-append : (a b : List Note) → countsOf (a ++ b) ≡ plus (countsOf a) (countsOf b)
 unfolding countsOf
 counts-append [] b = sym (plus-none (countsOf b))
-counts-append (x ∷ a) b = ap (plus (countsOfNote x)) (counts-append a b) ∙ sym (plus-assoc (countsOfNote x) (countsOf a) (countsOf b))
+counts-append (x ∷ a) b = ap (plus (countsOfNote x)) (counts-append a b)
+    ∙ sym (plus-assoc (countsOfNote x) (countsOf a) (countsOf b))
 
--- a fill counts one line filled, and one MAC checked under a tag; an eviction counts a line written where it was dirty, and a MAC made for a data line
-pub counts-filled : (t : Tag) (n : ℕ) (ok : Bool) → countsOf (Note.filled t n ok ∷ []) ≡ record { filled = 1; written = 0; checked = if (isChecked t) 1 0; made = 0 }
+-- a fill counts one line filled, and one MAC checked under a tag; an eviction counts a line written where it was dirty,
+-- and a MAC made for a data line
+pub counts-filled : (t : Tag) (n : ℕ) (ok : Bool) → countsOf (Note.filled t n ok ∷ []) ≡ record {
+  filled = 1;
+  written = 0;
+  checked = if (isChecked t) 1 0;
+  made = 0;
+}
 unfolding countsOf countsOfNote plus noCounts
 counts-filled t n ok =
     let e : (if (isChecked t) 1 0) + 0 ≡ if (isChecked t) 1 0 = omega arith in
     λ i. record { filled = 1; written = 0; checked = e i; made = 0 }
 
-pub counts-evicted : (t : Tag) (n : ℕ) → countsOf (Note.evicted t n true ∷ []) ≡ record { filled = 0; written = 1; checked = 0; made = if (isData t) 1 0 }
+pub counts-evicted : (t : Tag) (n : ℕ) → countsOf (Note.evicted t n true ∷ []) ≡ record {
+  filled = 0;
+  written =
+      1;
+  checked = 0;
+  made = if (isData t) 1 0;
+}
 unfolding countsOf countsOfNote plus noCounts
 counts-evicted t n =
     let e : (if (isData t) 1 0) + 0 ≡ if (isData t) 1 0 = omega arith in

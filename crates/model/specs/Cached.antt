@@ -1,4 +1,5 @@
--- The cached memory: lines are held in slots, filled when they are missed, and written back when they are evicted dirty. It notes what it does.
+-- The cached memory: lines are held in slots, filled when they are missed, and written back when they are evicted
+-- dirty. It notes what it does.
 use Prim.Native.Nat.{ℕ, zero, suc, _+_}
 use mathlib.Core.Bool.{Bool, true, false, _&&_}
 use mathlib.Core.List.{List, [], _∷_, _++_}
@@ -13,7 +14,8 @@ use Rattle.model.specs.Lines.{lineAt, putLine, macAt, putMac, seen, stor
 use Rattle.model.specs.Log.{Note}
 use Rattle.model.specs.Placement.{Entry, Placement, holding}
 use Rattle.model.specs.Uncached.{Uncached}
-use Rattle.model.specs.Requests.{Request, access, evict, busRead, busWrite, busMac, writeBack, rekey, Handled, Memory}
+use Rattle.model.specs.Requests.{Request, access, evict, busRead, busWrite, busMac, writeBack, rekey, Handled}
+use Rattle.model.specs.Requests.{Memory}
 
 -- the DRK, the bytes of memory, the MAC area, the cache's data bytes (64 a slot) and its directory (a number a slot)
 pub record Cached : Type 0 where
@@ -29,7 +31,8 @@ pub record Did : Type 0 where
   pub state : Cached
   pub log : List Note
 
--- the slot is evicted: a dirty line is written back, a Secure Data line sealed and with its MAC; the slot gets 64 zero bytes. An empty slot changes nothing
+-- the slot is evicted: a dirty line is written back, a Secure Data line sealed and with its MAC; the slot gets 64 zero
+-- bytes. An empty slot changes nothing
 unfoldable pub evictPlace : Cipher → Placement → ℕ → Cached → Did
 evictPlace c P p s =
     let e = P .look (s .dir) p in
@@ -40,14 +43,16 @@ evictPlace c P p s =
           record {
             key = s .key;
             mem = if (e .dirty) (putLine (e .line) line (s .mem)) (s .mem);
-            macs = if (e .dirty) (putMac (e .line) (signed c (e .tag) (s .key) (e .line) line (macAt (e .line) (s .macs))) (s .macs)) (s .macs);
+            macs = if (e .dirty) (putMac (e .line)
+                (signed c (e .tag) (s .key) (e .line) line (macAt (e .line) (s .macs))) (s .macs)) (s .macs);
             cache = if (e .used) (putLine p (zeros 64) (s .cache)) (s .cache);
             dir = if (e .used) (P .clear (s .dir) p) (s .dir);
           };
       log = if (e .used) (Note.evicted (e .tag) (e .line) (e .dirty) ∷ []) [];
     }
 
--- line n is filled into the slot under the tag: clean where its check passes, and otherwise the slot stays empty with 64 zero bytes
+-- line n is filled into the slot under the tag: clean where its check passes, and otherwise the slot stays empty with
+-- 64 zero bytes
 unfoldable pub fillPlace : Cipher → Placement → Tag → ℕ → ℕ → Cached → Did
 fillPlace c P tag n p s =
     let line = lineAt n (s .mem) in
@@ -105,7 +110,8 @@ writePlace P tag n p write change s =
     }
 
 -- an access at the slot that was chosen for its line
-unfoldable pub accessPlace : Cipher → Placement → Tag → ℕ → ℕ → Bool → (List ℕ → List ℕ) → Cached → Handled Cached
+unfoldable pub accessPlace : Cipher → Placement → Tag → ℕ → ℕ → Bool → (List ℕ → List ℕ)
+    → Cached → Handled Cached
 accessPlace c P tag n p write change s =
     let r = readyPlace c P tag n p s in
     record {

@@ -1,4 +1,5 @@
--- What the machine uses of the ciphers: the operations only. Keys, addresses and texts go in, bytes come out; nobody above looks inside.
+-- What the machine uses of the ciphers: the operations only. Keys, addresses and texts go in, bytes come out; nobody
+-- above looks inside.
 use Prim.Native.Nat.{ℕ}
 use mathlib.Core.List.{List}
 

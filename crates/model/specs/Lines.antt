@@ -1,4 +1,5 @@
--- Lines of memory, entries of the MAC area and slots of the cache as parts of their buffers, and what a tag makes of a line.
+-- Lines of memory, entries of the MAC area and slots of the cache as parts of their buffers, and what a tag makes of a
+-- line.
 use Prim.Native.Nat.{ℕ, _*_}
 use mathlib.Core.Bool.{Bool, true}
 use mathlib.Core.List.{List}
@@ -36,13 +37,15 @@ stored c noTag key n body = body
 stored c secureInstruction key n body = body
 stored c secureData key n body = c .encipher key (n * 64) body
 
--- the MAC entry of line n once the stored line is written under the tag: a data line is signed, any other leaves the entry
+-- the MAC entry of line n once the stored line is written under the tag: a data line is signed, any other leaves the
+-- entry
 unfoldable pub signed : Cipher → Tag → List ℕ → ℕ → List ℕ → List ℕ → List ℕ
 signed c noTag key n line mac = mac
 signed c secureInstruction key n line mac = mac
 signed c secureData key n line mac = c .dataMac key (n * 64) line
 
--- does the stored line n pass the check of the tag? A code line's MAC stands in its last 16 bytes, a data line's in the MAC area
+-- does the stored line n pass the check of the tag? A code line's MAC stands in its last 16 bytes, a data line's in the
+-- MAC area
 unfoldable pub passes : Cipher → Tag → List ℕ → ℕ → List ℕ → List ℕ → Bool
 passes c noTag key n line mac = true
 passes c secureInstruction key n line mac = same (c .codeMac key (n * 64) (take 48 line)) (partAt 48 16 line)

@@ -1,4 +1,5 @@
--- Where lines may sit in the cache: the operations of a placement on the directory's numbers. A placement acts on places, and 'line n is held' is derived.
+-- Where lines may sit in the cache: the operations of a placement on the directory's numbers. A placement acts on
+-- places, and 'line n is held' is derived.
 use Prim.Native.Nat.{ℕ}
 use mathlib.Core.Bool.{Bool, true, false}
 use mathlib.Core.List.{List}

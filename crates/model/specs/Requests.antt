@@ -43,7 +43,8 @@ pub record Handled (S : Type 0) : Type 0 where
   pub state : S
   pub log : List Note
 
--- a memory: where its state has the DRK, how many bytes of memory it has, how it handles each request, and what a power cut leaves of it
+-- a memory: where its state has the DRK, how many bytes of memory it has, how it handles each request, and what a power
+-- cut leaves of it
 pub record Memory (S : Type 0) : Type 0 where
   pub key : S → List ℕ
   pub size : S → ℕ

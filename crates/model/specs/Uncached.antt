@@ -7,7 +7,8 @@ use lib.ListN.{length}
 use Rattle.lists.specs.If.{if}
 use Rattle.model.specs.Cipher.{Cipher}
 use Rattle.model.specs.Lines.{lineAt, putLine, macAt, putMac, seen, stored, signed, passes}
-use Rattle.model.specs.Requests.{Request, access, evict, busRead, busWrite, busMac, writeBack, rekey, Handled, Memory}
+use Rattle.model.specs.Requests.{Request, access, evict, busRead, busWrite, busMac, writeBack, rekey, Handled}
+use Rattle.model.specs.Requests.{Memory}
 
 -- the DRK, the bytes of memory and the MAC area
 pub record Uncached : Type 0 where
@@ -15,7 +16,8 @@ pub record Uncached : Type 0 where
   pub mem : List ℕ
   pub macs : List ℕ
 
--- each protected access checks its line there; a secure store opens, seals and signs it again there; evictions do nothing
+-- each protected access checks its line there; a secure store opens, seals and signs it again there; evictions do
+-- nothing
 unfoldable pub uncachedHandle : Cipher → Request → Uncached → Handled Uncached
 uncachedHandle c (access tag n write change) s =
     let line = lineAt n (s .mem) in
@@ -39,8 +41,19 @@ uncachedHandle c (busWrite n x) s =
 uncachedHandle c (busMac n x) s =
     record { reply = some []; state = record { key = s .key; mem = s .mem; macs = putMac n x (s .macs) }; log = [] }
 uncachedHandle c writeBack s = record { reply = some []; state = s; log = [] }
-uncachedHandle c (rekey k) s = record { reply = some []; state = record { key = k; mem = s .mem; macs = s .macs }; log = [] }
+uncachedHandle c (rekey k) s = record {
+  reply = some [];
+  state = record { key = k; mem = s .mem; macs = s .macs };
+  log =
+      [];
+}
 
 -- the manual's memory; at a power cut it is given what the cut left of the machine beside it
 unfoldable pub uncached : Cipher → Uncached → Memory Uncached
-uncached c left = record { key = λ s. s .key; size = λ s. length (s .mem); handle = uncachedHandle c; cut = λ s. left }
+uncached c left = record {
+  key = λ s. s .key;
+  size = λ s. length (s .mem);
+  handle = uncachedHandle c;
+  cut =
+      λ s. left;
+}

@@ -11,12 +11,14 @@ returns c = rw (ne-eqb ((c .before .args .mem) % 64) 0 (c .if1 .taken))
 
 returns-2 : tie.Need-returns-2
 unfolding memoryFlaws sizeFine
-returns-2 c = rw (eq-eqb ((c .before .before .args .mem) % 64) 0 (c .before .if1 .left), lt-leb 128 (c .before .before .args .mem) (c .if2 .taken))
+returns-2 c = rw (
+  eq-eqb ((c .before .before .args .mem) % 64) 0 (c .before .if1 .left),
+  lt-leb 128 (c .before .before .args .mem) (c .if2 .taken),
+)
 
 returns-3 : tie.Need-returns-3
 unfolding memoryFlaws sizeFine
-returns-3 c =
-    let args = c .before .before .before .args in
+returns-3 c = let args = c .before .before .before .args in
     rw (
       eq-eqb ((args .mem) % 64) 0 (c .before .before .if1 .left),
       le-leb 128 (args .mem) (c .before .if2 .left),
@@ -26,8 +28,7 @@ returns-3 c =
 
 returns-4 : tie.Need-returns-4
 unfolding memoryFlaws sizeFine
-returns-4 c =
-    let args = c .before .before .before .before .args in
+returns-4 c = let args = c .before .before .before .before .args in
     rw (
       eq-eqb ((args .mem) % 64) 0 (c .before .before .before .if1 .left),
       le-leb 128 (args .mem) (c .before .before .if2 .left),
@@ -38,8 +39,7 @@ returns-4 c =
 
 returns-5 : tie.Need-returns-5
 unfolding memoryFlaws sizeFine
-returns-5 c =
-    let args = c .before .before .before .before .args in
+returns-5 c = let args = c .before .before .before .before .args in
     rw (
       eq-eqb ((args .mem) % 64) 0 (c .before .before .before .if1 .left),
       le-leb 128 (args .mem) (c .before .before .if2 .left),

@@ -8,7 +8,8 @@ use Rattle.sealing.proofs.derive.Tie as tie
 
 returns : tie.Need-returns
 unfolding macOf drkOf
-returns c = c .sign .ensures ∙ ap₂ cmac (c .before .before .before .signing-words .ensures) (c .before .before .before .before .pair .ensures)
+returns c = c .sign .ensures ∙ ap₂ cmac (c .before .before .before .signing-words .ensures)
+    (c .before .before .before .before .pair .ensures)
 
 pub derive-spec : {M : Type 1} → statement M
 derive-spec =

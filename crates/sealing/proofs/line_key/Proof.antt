@@ -13,5 +13,4 @@ unfolding lineKey macOf
 returns c = c .sign .ensures ∙ ap (λ (w : List ℕ). cmac w (1 ∷ [])) (c .before .before .before .signing-words .ensures)
 
 pub line-key-spec : {M : Type 1} → statement M
-line-key-spec =
-    tie.close (tie.spec (λ c κs. search needs) (λ c. search needs) (λ c κs. search needs) returns)
+line-key-spec = tie.close (tie.spec (λ c κs. search needs) (λ c. search needs) (λ c κs. search needs) returns)

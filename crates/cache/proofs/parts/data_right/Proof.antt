@@ -6,25 +6,12 @@ use Rattle.cache.proofs.parts.data_right.Tie as tie
 
 returns : tie.Need-returns
 returns c =
-    let args = c .before .before .before .before .before .before .before .args in
-    data-checked (args .n) _ _ (args .mem .now) (args .macs .now) _ (c .before .before .before .data-mac .ensures) (c .same .ensures)
+    let at-start = c .before .before .before .before .before .before .before in
+    let args = at-start .args in data-checked (args .n) _ _ (args .mem .now) (args .macs .now) _
+    (c .before .before .before .data-mac .ensures) (c .same .ensures)
 
 pub data-right-spec : {M : Type 1} → statement M
-data-right-spec =
-    tie.close
-    (tie.spec
-    (λ c. search needs)
-    (λ c. search needs)
-    (λ c. search needs)
-    (λ c. search needs)
-    (λ c. search needs)
-    (λ c. search needs)
-    (λ c. search needs)
-    (λ c. search needs)
-    (λ c κs. search needs)
-    (λ c. search needs)
-    (λ c. search needs)
-    (λ c. search needs)
-    (λ c. search needs)
-    (λ c κs. search needs)
-    returns)
+data-right-spec = tie.close (tie.spec (λ c. search needs) (λ c. search needs) (λ c. search needs)
+    (λ c. search needs) (λ c. search needs) (λ c. search needs) (λ c. search needs) (λ c. search needs)
+    (λ c κs. search needs) (λ c. search needs) (λ c. search needs) (λ c. search needs) (λ c. search needs)
+    (λ c κs. search needs) returns)

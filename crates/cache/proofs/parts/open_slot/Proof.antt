@@ -8,19 +8,10 @@ use Rattle.cache.proofs.parts.open_slot.Tie as tie
 
 returns : tie.Need-returns
 returns c =
-    let args = c .before .before .before .before .before .args in
-    changed (deciphered (drkOf (args .hi) (args .lo)) (args .n * 64)) (args .slot) (args .cache .now) _ (c .before .before .unseal .ensures)
+    let at-start = c .before .before .before .before .before in
+    let args = at-start .args in changed (deciphered (drkOf (args .hi) (args .lo)) (args .n * 64)) (args .slot)
+    (args .cache .now) _ (c .before .before .unseal .ensures)
 
 pub open-slot-spec : {M : Type 1} → statement M
-open-slot-spec =
-    tie.close
-    (tie.spec
-    (λ c. search needs)
-    (λ c. search needs)
-    (λ c. search needs)
-    (λ c. search needs)
-    (λ c. search needs)
-    (λ c. search needs)
-    (λ c κs. search needs)
-    (λ c. search needs)
-    returns)
+open-slot-spec = tie.close (tie.spec (λ c. search needs) (λ c. search needs) (λ c. search needs) (λ c. search needs)
+    (λ c. search needs) (λ c. search needs) (λ c κs. search needs) (λ c. search needs) returns)

@@ -7,10 +7,10 @@ use Rattle.cache.proofs.parts.put.Tie as tie
 
 returns : tie.Need-returns
 returns c =
-    let args = c .before .before .before .before .before .before .args in
-    copied (args .a) (args .from .now) (args .to .now) _ (omega arith) (c .before .before .copy .ensures .1)
+    let at-start = c .before .before .before .before .before .before in
+    let args = at-start .args in copied (args .a) (args .from .now) (args .to .now) _ (omega arith)
+    (c .before .before .copy .ensures .1)
 
 pub put-spec : {M : Type 1} → statement M
-put-spec =
-    tie.close
-    (tie.spec (λ c. search needs) (λ c. search needs) (λ c. search needs) (λ c. search needs) (λ c κs. search needs) (λ c. search needs) returns)
+put-spec = tie.close (tie.spec (λ c. search needs) (λ c. search needs) (λ c. search needs) (λ c. search needs)
+    (λ c κs. search needs) (λ c. search needs) returns)

@@ -14,5 +14,4 @@ returns-3 : tie.Need-returns-3
 returns-3 c = plain-passes _ _ _ _ _ (c .before .if1 .left) (c .if2 .left)
 
 pub right-spec : {M : Type 1} → statement M
-right-spec =
-    tie.close (tie.spec (λ c κs. search needs) returns (λ c κs. search needs) returns-2 returns-3)
+right-spec = tie.close (tie.spec (λ c κs. search needs) returns (λ c κs. search needs) returns-2 returns-3)

@@ -8,19 +8,10 @@ use Rattle.cache.proofs.parts.seal_slot.Tie as tie
 
 returns : tie.Need-returns
 returns c =
-    let args = c .before .before .before .before .before .args in
-    changed (enciphered (drkOf (args .hi) (args .lo)) (args .n * 64)) (args .slot) (args .cache .now) _ (c .before .before .seal .ensures)
+    let at-start = c .before .before .before .before .before in
+    let args = at-start .args in changed (enciphered (drkOf (args .hi) (args .lo)) (args .n * 64)) (args .slot)
+    (args .cache .now) _ (c .before .before .seal .ensures)
 
 pub seal-slot-spec : {M : Type 1} → statement M
-seal-slot-spec =
-    tie.close
-    (tie.spec
-    (λ c. search needs)
-    (λ c. search needs)
-    (λ c. search needs)
-    (λ c. search needs)
-    (λ c. search needs)
-    (λ c. search needs)
-    (λ c κs. search needs)
-    (λ c. search needs)
-    returns)
+seal-slot-spec = tie.close (tie.spec (λ c. search needs) (λ c. search needs) (λ c. search needs) (λ c. search needs)
+    (λ c. search needs) (λ c. search needs) (λ c κs. search needs) (λ c. search needs) returns)

@@ -10,4 +10,5 @@ unfolding putLine zeros
 returns c = c .before .before .put .ensures
 
 pub wipe-spec : {M : Type 1} → statement M
-wipe-spec = tie.close (tie.spec (λ c. search needs) (λ c. search needs) (λ c κs. search needs) (λ c. search needs) returns)
+wipe-spec = tie.close (tie.spec (λ c. search needs) (λ c. search needs) (λ c κs. search needs) (λ c. search needs)
+    returns)

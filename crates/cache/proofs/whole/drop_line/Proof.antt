@@ -1,55 +1,58 @@
 -- `cache::whole::drop_line` meets its promise.
-use Rattle.model.specs.Log.{noCounts}
+use Rattle.cache.proofs.Dropping.{some-slot, choose-slot, drops-other, drops-held}
+use Rattle.directory.proofs.DirectLaws.{direct-laws}
+use Rattle.directory.specs.Direct.{direct}
 use native.Mathlib.Omega.{arith}
-use Rattle.cache.proofs.Dropping.{some-slot, own-slot, drops-empty, drops-other, drops-held}
+use borrow.Author.Tests.{not-true, not-false}
+use mathlib.Core.Path.{sym, _∙_}
 use borrow.Author.Needs.{needs}
 use Rattle.cache.proofs.whole.drop_line.Statement.{statement}
 use Rattle.cache.proofs.whole.drop_line.Tie as tie
 
-rem-slot : tie.Need-rem-slot
-rem-slot c = some-slot _ (c .before .before .before .before .pre .0)
+-- from one place of the code back to another
+abbrev back-to-start : tie.After-choose → tie.Start
+back-to-start c = c .before .before .before .before .before .before
 
-mul-d : tie.Need-mul-d
-mul-d c = omega (arith, own-slot _ (c .before .before .before .before .args .n) (c .before .before .before .before .pre .0))
+choose-requires : tie.Need-choose-requires
+choose-requires c κs =
+    let at-start = c .before .before .before .before .before in
+    some-slot _ (at-start .pre .0)
 
-slice-read-d : tie.Need-slice-read-d
-slice-read-d c = own-slot _ (c .before .before .before .before .before .args .n) (c .before .before .before .before .before .pre .0)
+mul-holds : tie.Need-mul-holds
+mul-holds c =
+    let at-start = back-to-start c in
+    omega (arith, choose-slot direct _ _ _ (c .choose .ensures) direct-laws (at-start .pre .0) (at-start .pre .1))
+
+slice-read-holds : tie.Need-slice-read-holds
+slice-read-holds c =
+    let at-start = back-to-start (c .before) in
+    choose-slot direct _ _ _ (c .before .choose .ensures) direct-laws (at-start .pre .0) (at-start .pre .1)
 
 returns : tie.Need-returns
-unfolding noCounts
-returns c = drops-empty _ _ (c .if1 .taken)
-
-returns-2 : tie.Need-returns-2
-unfolding noCounts
-returns-2 c = drops-other _ _ (c .if2 .taken)
+unfolding direct
+returns c = rw (c .none .ensures)
+    (drops-other direct _ _ _ (c .before .before .before .before .choose .ensures)
+    (sym (c .before .before .holds .ensures) ∙ not-true _ (c .before .if1 .taken)))
 
 evict-requires : tie.Need-evict-requires
-evict-requires c κs = (
-  c .before .before .before .before .before .before .before .before .before .before .before .pre .0,
-  own-slot _ (c .before .before .before .before
-      .before .before .before .before .before .before .before .args .n) (c .before .before .before .before .before .before .before .before .before
-      .before .before .pre .0),
-)
+evict-requires c κs =
+    let at-choose = c .before .before .before .before .before .before .before in
+    let at-start = back-to-start at-choose in (
+      at-start .pre .0,
+      choose-slot direct _ _ _ (at-choose .choose .ensures) direct-laws (at-start .pre .0)
+          (at-start .pre .1),
+    )
 
-returns-3 : tie.Need-returns-3
-returns-3 c =
-    drops-held _ _ _ _ (c .before .before .before .before .before .before .before .before .before .before .before .before .before .before .if1 .left)
-    (c .before .before .before .before .before .before .before .before .before .before .before .before .before .if2 .left) (c .before .before .before
-    .before .before .before .before .before .evict .ensures)
+returns-2 : tie.Need-returns-2
+unfolding direct
+returns-2 c =
+    let at-evict = c .before .before .before .before .before .before .before .before in
+    let at-if1 = at-evict .before .before .before .before .before in
+    let at-choose = at-if1 .before .before .before in
+    drops-held direct _ _ _ (at-choose .choose .ensures) _ _ (sym (at-if1 .before .holds .ensures)
+    ∙ not-false _ (at-if1 .if1 .left)) (at-evict .evict .ensures)
 
 pub drop-line-spec : {M : Type 1} → statement M
-drop-line-spec =
-    tie.close
-    (tie.spec
-    rem-slot
-    mul-d
-    slice-read-d
-    returns
-    (λ c. search needs)
-    returns-2
-    evict-requires
-    (λ c. search needs)
-    (λ c. search needs)
-    (λ c. search needs)
-    (λ c. search needs)
-    returns-3)
+drop-line-spec = tie.close (tie.spec choose-requires mul-holds slice-read-holds (λ c κs. search needs)
+    (λ c κs. search needs) (λ c. search needs) returns evict-requires (λ c. search needs) (λ c. search needs)
+    (λ c. search needs) (λ c. search needs) returns-2)

@@ -1,51 +1,65 @@
 -- `cache::whole::evict_all` meets its promise.
 use borrow.Author.Needs.{needs}
-use Rattle.cache.proofs.Following.{evicted-small}
-use Rattle.cache.specs.Lent.{lent, countsIn}
-use Rattle.model.specs.Log.{noCounts}
-use Prim.Native.Nat.{_-_}
+use Prim.Native.Nat.{_-_, _*_}
 use native.Mathlib.Omega.{arith}
+use Rattle.directory.specs.Direct.{direct}
+use Rattle.directory.proofs.DirectLaws.{direct-laws}
+use Rattle.cache.specs.Lent.{lent, countsIn}
+use Rattle.cache.proofs.Following.{evicted-small, small-bounded}
 use Rattle.cache.proofs.Everything.{Emptied, emptied-none, emptied-more, emptied-all}
 use Rattle.cache.proofs.whole.evict_all.Statement.{statement}
 use Rattle.cache.proofs.whole.evict_all.Tie as tie
 
 abbrev Inv-loop : tie.InvT-loop
-Inv-loop hi lo mem₀ macs₀ cache₀ dir₀ n k₀ i₀ mem macs cache dir k i = Emptied n i (lent hi lo mem₀ macs₀ cache₀ dir₀) (lent hi lo mem macs cache dir) (countsIn k)
+Inv-loop hi lo mem₀ macs₀ cache₀ dir₀ n k₀ i₀ mem macs cache dir k i =
+    Emptied direct direct-laws n i (lent hi lo mem₀ macs₀ cache₀ dir₀) (lent hi lo mem macs cache dir)
+    (countsIn k)
 
 abbrev μ-loop : tie.MeasureT-loop
 μ-loop hi lo mem₀ macs₀ cache₀ dir₀ n k₀ i₀ mem macs cache dir k i = n - i
 
 loop-holds : tie.Need-loop-holds Inv-loop μ-loop
-unfolding noCounts
-loop-holds c = emptied-none _ (c .before .before .before .before .pre)
+loop-holds c = rw (c .none .ensures)
+    (emptied-none direct direct-laws _ (c .before .before .before .before .before .pre))
 
 evict-requires : tie.Need-evict-requires Inv-loop μ-loop
 evict-requires c κs =
-    let turn = c .before .before .before .before .before .loop in
-    (turn .inv .fit, omega (arith, turn .inv .slots, turn .inv .dir))
+    let turn = c .before .before .before .before .before .loop .inv in
+    (turn .fit, omega (arith, turn .slots, turn .dir))
 
 add-requires : tie.Need-add-requires Inv-loop μ-loop
-add-requires c κs =
-    let turn = c .before .before .before .before .before .before .before .before .before .before .before .before .before .before .loop in
-    let e = evicted-small _ _ (turn .i) _ (c .before .before .before .before .before .before .before .before .evict .ensures) in let k = turn .inv
-    .small in (
-      (omega (arith, k .filled), omega (arith, k .written), omega (arith, k .checked), omega (arith, k .made)),
-      (
-        omega (arith, e .filled),
-        omega (arith, e .written),
-        omega (arith, e .checked),
-        omega (arith, e .made),
-      ),
-    )
+add-requires c κs = (
+  small-bounded (c .before .before .before .before .before .before .before .before .before .before .before .before
+      .before .before .loop .i) _ (omega arith)
+      (c .before .before .before .before .before .before .before .before .before .before .before .before .before .before
+      .loop .inv .small),
+  small-bounded 1 _ (omega arith)
+      (evicted-small direct _ _ _ _
+      (c .before .before .before .before .before .before .before .before .evict .ensures)),
+)
+
+add-i : tie.Need-add-i Inv-loop μ-loop
+add-i c = record {
+  fits =
+      omega (
+        arith,
+        c .before .before .before .before .before .before .before .before .before .before .before .before
+            .before .before .loop-test .taken,
+        c .before .before .before .before .before .before .before .before .before .before .before .before .before .before
+            .before .before .before .before .before .before .before .good .1 .1 .1 .1 .1 .0 .0,
+      );
+}
 
 loop-again : tie.Need-loop-again Inv-loop μ-loop
 loop-again c =
-    emptied-more _ _ _ _ _ _ _ _ (c .before .before .before .before .before .before .before .before .before .before .before .before .before .before
-    .loop-test .taken) (c .before .before .before .before .before .before .before .before .before .before .before .before .before .before .before
-    .loop .inv) (c .before .before .before .before .before .before .before .before .before .evict .ensures) (c .add .ensures) (c .before .before
-    .before .before .before .before .before .before .before .evict .kept .1 .1 .1 .1 .1 .0) (c .before .before .before .before .before .before .before
-    .before .before .evict .kept .1 .1 .0) (c .before .before .before .before .before .before .before .before .before .evict .kept .1 .1 .1 .0) (c
-    .before .before .before .before .before .before .before .before .before .evict .kept .1 .1 .1 .1 .0)
+    let kept = c .before .before .before .before .before .before .before .before .before .evict .kept .1 .1 in
+    emptied-more direct direct-laws _ _ _ _ _ _ _ _
+    (c .before .before .before .before .before .before .before .before .before .before .before .before .before
+    .before .loop-test .taken)
+    (c .before .before .before .before .before .before .before .before .before .before .before .before .before
+    .before .before .loop .inv)
+    (c .before .before .before .before .before .before .before .before .before .evict .ensures) (c .add .ensures)
+    (kept .1 .1 .1 .0) (kept .0) (kept .1 .0) (kept .1 .1 .0)
 
 same-length : tie.Need-same-length Inv-loop μ-loop
 same-length c = c .before .loop .inv .mem
@@ -60,22 +74,8 @@ same-length-4 : tie.Need-same-length-4 Inv-loop μ-loop
 same-length-4 c = c .before .loop .inv .dir
 
 returns : tie.Need-returns Inv-loop μ-loop
-returns c = emptied-all _ _ _ _ _ (c .loop-test .left) (c .before .loop .inv)
+returns c = emptied-all direct direct-laws _ _ _ _ _ (c .loop-test .left) (c .before .loop .inv)
 
 pub evict-all-spec : {M : Type 1} → statement M
-evict-all-spec =
-    tie.close
-    (tie.spec
-    Inv-loop
-    μ-loop
-    loop-holds
-    evict-requires
-    add-requires
-    (λ c. search needs)
-    (λ c. search needs)
-    loop-again
-    same-length
-    same-length-2
-    same-length-3
-    same-length-4
-    returns)
+evict-all-spec = tie.close (tie.spec Inv-loop μ-loop (λ c κs. search needs) loop-holds evict-requires add-requires
+    add-i (λ c. search needs) loop-again same-length same-length-2 same-length-3 same-length-4 returns)

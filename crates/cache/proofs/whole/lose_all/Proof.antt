@@ -22,8 +22,10 @@ lose-requires c κs =
 
 loop-again : tie.Need-loop-again Inv-loop μ-loop
 loop-again c =
-    lost-more _ _ _ _ _ _ _ _ (c .before .before .before .before .before .before .before .loop-test .taken) (c .before .before .before .before .before
-    .before .before .before .loop .inv) (c .before .before .before .before .lose .ensures) (c .before .before .before .before .lose .kept .0) (c
+    lost-more _ _ _ _ _ _ _ _ (c .before .before .before .before .before .before .before .loop-test .taken)
+    (c .before .before .before .before .before
+    .before .before .before .loop .inv) (c .before .before .before .before .lose .ensures)
+    (c .before .before .before .before .lose .kept .0) (c
     .before .before .before .before .lose .kept .1 .0)
 
 same-length : tie.Need-same-length Inv-loop μ-loop
@@ -36,16 +38,5 @@ returns : tie.Need-returns Inv-loop μ-loop
 returns c = lost-all _ _ _ _ _ _ (c .loop-test .left) (c .before .loop .inv)
 
 pub lose-all-spec : {M : Type 1} → statement M
-lose-all-spec =
-    tie.close
-    (tie.spec
-    Inv-loop
-    μ-loop
-    loop-holds
-    lose-requires
-    (λ c. search needs)
-    (λ c. search needs)
-    loop-again
-    same-length
-    same-length-2
-    returns)
+lose-all-spec = tie.close (tie.spec Inv-loop μ-loop loop-holds lose-requires (λ c. search needs) (λ c. search needs)
+    loop-again same-length same-length-2 returns)

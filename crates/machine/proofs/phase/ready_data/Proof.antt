@@ -1,42 +1,33 @@
 -- `machine::phase::ready_data` meets its promise.
-use mathlib.Core.Path.{sym, _∙_}
-use Rattle.directory.specs.Direct.{direct}
-use Rattle.model.specs.Log.{noCounts}
+use Rattle.machine.proofs.Serving.{slot-number}
 use Rattle.machine.proofs.Granted.{readies-hit, readies-miss}
-use Rattle.machine.proofs.Serving.{tag-exists}
+use Rattle.directory.specs.Direct.{direct}
+use mathlib.Core.Path.{sym, _∙_}
 use borrow.Author.Needs.{needs}
 use Rattle.machine.proofs.phase.ready_data.Statement.{statement}
 use Rattle.machine.proofs.phase.ready_data.Tie as tie
 
-serving-requires : tie.Need-serving-requires
-serving-requires c κs = (
-  c .before .before .before .before .before .pre .1 .2,
-  tag-exists _ (c .before .before .before .before .before .args .slot) (c .before .before
-      .before .before .before .pre .0) (c .before .before .before .before .before .pre .1 .0),
-)
+serves-requires : tie.Need-serves-requires
+serves-requires c κs =
+    let at-start = c .before .before .before .before .before in
+    (slot-number _ _ (at-start .pre .0) (at-start .pre .1 .0), at-start .pre .1 .2)
 
 returns : tie.Need-returns
-unfolding noCounts direct
-returns c = readies-hit _ _ _ _ (sym (c .if1 .taken) ∙ c .before .serving .ensures)
+unfolding direct
+returns c =
+    let at-if1 = c .before .before .before .before .before in
+    readies-hit direct _ _ _ _ _ _ (c .none .ensures) (sym (at-if1 .if1 .taken) ∙ at-if1 .before .serves .ensures)
+    (c .before .before .before .touch .ensures)
 
 returns-2 : tie.Need-returns-2
 unfolding direct
 returns-2 c =
-    readies-miss _ _ _ _ _ _ _ (sym (c .before .before .before .before .before .before .before .before .before .before .before .before .before .if1
-    .left) ∙ c .before .before .before .before .before .before .before .before .before .before .before .before .before .before .serving .ensures) (c
-    .before .before .before .before .before .before .before .before .replace .ensures)
+    let at-replace = c .before .before .before .before .before .before .before .before in
+    let at-if1 = at-replace .before .before .before .before .before in
+    readies-miss direct _ _ _ _ _ _ _ (sym (at-if1 .if1 .left) ∙ at-if1 .before .serves .ensures)
+    (at-replace .replace .ensures)
 
 pub ready-data-spec : {M : Type 1} → statement M
-ready-data-spec =
-    tie.close
-    (tie.spec
-    (λ c. search needs)
-    (λ c. search needs)
-    serving-requires
-    returns
-    (λ c κs. search needs)
-    (λ c. search needs)
-    (λ c. search needs)
-    (λ c. search needs)
-    (λ c. search needs)
-    returns-2)
+ready-data-spec = tie.close (tie.spec (λ c. search needs) (λ c. search needs) serves-requires (λ c κs. search needs)
+    (λ c κs. search needs) (λ c. search needs) returns (λ c κs. search needs) (λ c. search needs)
+    (λ c. search needs) (λ c. search needs) (λ c. search needs) returns-2)

@@ -6,29 +6,13 @@ use Rattle.machine.proofs.phase.touch.Tie as tie
 
 returns : tie.Need-returns
 returns c =
-    touches-write _ _ _ _ _ _ _ _ _ _ (c .before .before .before .before .if1 .taken) (c .before .before .before .before .before .read-eight .ensures)
-    (c .before .before .write-eight .ensures)
-
-returns-2 : tie.Need-returns-2
-returns-2 c = touches-read _ _ _ _ _ _ _ _ _ (c .if1 .left) (c .before .read-eight .ensures)
+    let at-write-eight = c .before .before .before .before .before .before in
+    let at-read-eight = at-write-eight .before .before .before in
+    touches-write _ _ _ _ _ _ _ _ _ (at-read-eight .read-eight .ensures) _ _
+    (at-write-eight .before .before .if1 .taken) (at-write-eight .write-eight .ensures)
+    (c .before .before .put .ensures)
 
 pub touch-spec : {M : Type 1} → statement M
-touch-spec =
-    tie.close
-    (tie.spec
-    (λ c. search needs)
-    (λ c. search needs)
-    (λ c κs. search needs)
-    (λ c κs. search needs)
-    (λ c. search needs)
-    (λ c. search needs)
-    (λ c. search needs)
-    (λ c. search needs)
-    (λ c. search needs)
-    (λ c. search needs)
-    (λ c. search needs)
-    (λ c. search needs)
-    (λ c. search needs)
-    returns
-    (λ c. search needs)
-    returns-2)
+touch-spec = tie.close (tie.spec (λ c. search needs) (λ c. search needs) (λ c κs. search needs)
+    (λ c κs. search needs) (λ c κs. search needs) (λ c. search needs) (λ c. search needs) returns
+    (λ c. search needs) (λ c. search needs))

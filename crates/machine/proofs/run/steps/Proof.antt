@@ -1,97 +1,102 @@
 -- `machine::run::steps` meets its promise.
-use Rattle.machine.specs.Steps.{machineOf}
-use Rattle.cache.specs.Lent.{countsIn}
-use Rattle.model.specs.Log.{noCounts}
-use Prim.Native.Nat.{ℕ, _-_}
-use Rattle.machine.proofs.Running.{Going, step-small, going-none, going-more, going-stops, going-all}
+use borrow.Author.Needs.{needs}
+use Prim.Native.Nat.{ℕ, _-_, _*_}
 use native.Mathlib.Omega.{arith}
 use mathlib.Core.Path.{_≡_, refl, _∙_}
+use Rattle.cache.specs.Lent.{countsIn}
+use Rattle.cache.proofs.Following.{small-bounded}
+use Rattle.machine.specs.Steps.{machineOf}
+use Rattle.machine.proofs.Running.{Going, step-small, going-none, going-more, going-stops, going-all}
 use Rattle.machine.proofs.run.steps.Statement.{statement}
 use Rattle.machine.proofs.run.steps.Tie as tie
 
 abbrev Inv-loop : tie.InvT-loop
-Inv-loop t r₀ mem₀ macs₀ cache₀ dir₀ n s₀ k₀ answer₀ i₀ r mem macs cache dir s k answer i = (_≡_ {A = ℕ} answer 0) × Going n i (machineOf r₀ s₀ mem₀ macs₀ cache₀ dir₀) (machineOf r s mem macs cache dir) (countsIn k)
+Inv-loop t r₀ mem₀ macs₀ cache₀ dir₀ n s₀ k₀ answer₀ i₀ r mem macs cache dir s k answer i =
+    (_≡_ {A = ℕ} answer 0)
+    × Going n i (machineOf r₀ s₀ mem₀ macs₀ cache₀ dir₀) (machineOf r s mem macs cache dir) (countsIn k)
 
 abbrev μ-loop : tie.MeasureT-loop
 μ-loop t r₀ mem₀ macs₀ cache₀ dir₀ n s₀ k₀ answer₀ i₀ r mem macs cache dir s k answer i = n - i
 
 loop-holds : tie.Need-loop-holds Inv-loop μ-loop
-unfolding noCounts
-loop-holds c = (refl, going-none _ _ (c .before .before .before .before .pre .1 .1))
+loop-holds c = (refl, rw (c .none .ensures) (going-none _ _ (c .before .before .before .before .before .pre .1 .1)))
 
 step-requires : tie.Need-step-requires Inv-loop μ-loop
 step-requires c κs =
-    let turn = c .before .before .before .before .before .before .loop in (
-      c .before .before .before .before .before .before .before .before .before .before .before .pre .0,
+    let turn = c .before .before .before .before .before .before .loop .inv .1 in (
+      c .before .before .before .before .before .before .before .before .before .before .before .before .pre .0,
       (
         omega (
           arith,
-          turn .inv .1 .mem,
-          c .before
-              .before .before .before .before .before .before .before .before .before .before .pre .1 .0 .0,
+          turn .mem,
+          c .before .before .before .before .before .before .before .before .before .before .before .before .pre .1 .0
+              .0,
         ),
-        turn .inv .1 .fit,
+        turn .fit,
       ),
     )
 
 add-requires : tie.Need-add-requires Inv-loop μ-loop
 add-requires c κs =
-    let turn = c .before .before .before .before .before .before .before .before .before .before .before .before .before .before .before .before .loop in
-    let a = turn .inv .1 .small in let b = step-small _ _ _ _ (turn .inv .1 .fit) (omega (
+    let turn = c .before .before .before .before .before .before .before .before .before .before .before .before .before
+    .before .before .before .loop .inv .1 in
+    let small = step-small _ _ _ _ (turn .fit)
+    (omega (
       arith,
-      turn .inv .1 .dir,
-      (c .before .before .before .before
-          .before .before .before .before .before .before .before .before .before .before .before .before .before .before .before .before .before .pre .1 .0
-          .1),
-    )) (c .before .before .before .before .before .before .before .before .before .step .ensures) in let n = c .before .before .before .before
-    .before .before .before .before .before .before .before .before .before .before .before .before .before .before .before .before .before .pre .1 .0
-    .2 in let w = turn .inv .1 .within in (
-      (
-        omega (arith, a .filled, n, w),
-        omega (arith, a .written, n, w),
-        omega (arith, a .checked, n, w),
-        omega
-            (arith, a .made, n, w),
-      ),
-      (omega (arith, b .filled), omega (arith, b .written), omega (arith, b .checked), omega (arith, b .made)),
+      turn .dir,
+      c .before .before .before .before .before .before .before .before .before .before .before .before .before
+          .before .before .before .before .before .before .before .before .before .pre .1 .0 .1,
+    ))
+    (c .before .before .before .before .before .before .before .before .before .step .ensures) in (
+      small-bounded (c .before .before .before .before .before .before .before .before .before .before .before .before
+          .before .before .before .before .loop .i * 130) _
+          (omega (
+            arith,
+            c .before .before .before .before .before .before .before .before .before .before .before
+                .before .before .before .before .before .before .before .before .before .before .before .pre .1 .0 .2,
+            turn .within,
+          )) (turn .small),
+      small-bounded 130 _ (omega arith) small,
     )
 
 add-i : tie.Need-add-i Inv-loop μ-loop
-add-i c =
-    omega (
-      arith,
-      c .before .before .before .before .before .before .before .before .before .before .before .before .before .before .before .before
-          .before .loop .inv .1 .within,
-      c .before .before .before .before .before .before .before .before .before .before .before .before .before .before
-          .before .before .before .before .before .before .before .before .pre .1 .0 .2,
-    )
+add-i c = omega (
+  arith,
+  c .before .before .before .before .before .before .before .before .before .before .before
+      .before .before .before .before .before .before .loop .inv .1 .within,
+  c .before .before .before .before .before .before .before .before .before .before .before .before .before .before
+      .before .before .before .before .before .before .before .before .before .pre .1 .0 .2,
+)
 
 loop-less : tie.Need-loop-less Inv-loop μ-loop
-loop-less c =
-    omega (
-      arith,
-      c .before .before .before .before .before .before .before .before .before .before .before .before .before .before .before .before
-          .before .before .before .loop .inv .1 .within,
-      c .before .before .before .before .before .before .before .before .before .before .before .before
-          .before .before .before .before .before .before .if1 .left,
-    )
+loop-less c = omega (
+  arith,
+  c .before .before .before .before .before .before .before .before .before .before .before .before .before .before
+      .before .before .before .before .before .loop .inv .1 .within,
+  c .before .before .before .before .before .before .before .before .before .before .before .before .before .before
+      .before .before .before .before .if1 .left,
+)
 
 loop-again : tie.Need-loop-again Inv-loop μ-loop
 loop-again c =
-    let turn = c .before .before .before .before .before .before .before .before .before .before .before .before .before .before .before .before .before .before .before .loop in (
-      turn .inv .0,
-      going-more _ _ _ _ _ _ _ _ _ (omega (
-        arith,
-        turn .inv .1 .within,
-        c .before .before .before .before .before .before .before .before
-            .before .before .before .before .before .before .before .before .before .before .if1 .left,
-      )) (c .before .before .before .before .before .before
-          .before .before .before .before .before .before .before .before .before .before .before .before .before .before .before .before .before .before
-          .pre .1 .0 .1) (turn .inv .1) (c .before .before .before .before .before .before .before .before .before .before .before .before .step .ensures)
-          (c .before .before .add .ensures) (c .if2 .left) (c .before .before .before .before .before .before .before .before .before .before .before
-          .before .step .kept .1 .1 .1 .0) (c .before .before .before .before .before .before .before .before .before .before .before .before .step .kept .1
-          .1 .1 .1 .0) (c .before .before .before .before .before .before .before .before .before .before .before .before .step .kept .1 .1 .1 .1 .1 .0) (c
-          .before .before .before .before .before .before .before .before .before .before .before .before .step .kept .1 .1 .1 .1 .1 .1 .0),
+    let turn = c .before .before .before .before .before .before .before .before .before .before .before .before .before
+    .before .before .before .before .before .before .loop .inv .1 in
+    let kept = c .before .before .before .before .before .before .before .before .before .before .before .before .step
+    .kept .1 .1 .1 in (
+      c .before .before .before .before .before .before .before .before .before .before .before .before .before .before
+          .before .before .before .before .before .loop .inv .0,
+      going-more _ _ _ _ _ _ _ _ _
+          (omega (
+            arith,
+            turn .within,
+            c .before .before .before .before .before .before .before .before .before .before .before .before .before
+                .before .before .before .before .before .if1 .left,
+          ))
+          (c .before .before .before .before .before .before .before .before .before .before .before .before .before
+          .before .before .before .before .before .before .before .before .before .before .before .before .pre .1 .0 .1)
+          turn (c .before .before .before .before .before .before .before .before .before .before .before .before .step
+          .ensures)
+          (c .before .before .add .ensures) (c .if2 .left) (kept .0) (kept .1 .0) (kept .1 .1 .0) (kept .1 .1 .1 .0),
     )
 
 same-length : tie.Need-same-length Inv-loop μ-loop
@@ -110,61 +115,46 @@ returns : tie.Need-returns Inv-loop μ-loop
 returns c = rw (c .before .loop .inv .0) (going-all _ _ _ _ _ (c .if1 .taken) (c .before .loop .inv .1))
 
 same-length-5 : tie.Need-same-length-5 Inv-loop μ-loop
-same-length-5 c =
-    c .before .before .before .before .before .before .before .before .before .before .before .before .step .kept .1 .1 .1 .0 ∙ c .before .before
-    .before .before .before .before .before .before .before .before .before .before .before .before .before .before .before .before .before .loop .inv
-    .1 .mem
+same-length-5 c = c .before .before .before .before .before .before .before .before .before .before .before .before
+    .step .kept .1 .1 .1 .0 ∙ c .before .before .before .before .before .before .before .before .before .before
+    .before .before .before .before .before .before .before .before .before .loop .inv .1 .mem
 
 same-length-6 : tie.Need-same-length-6 Inv-loop μ-loop
-same-length-6 c =
-    c .before .before .before .before .before .before .before .before .before .before .before .before .step .kept .1 .1 .1 .1 .0 ∙ c .before .before
-    .before .before .before .before .before .before .before .before .before .before .before .before .before .before .before .before .before .loop .inv
-    .1 .macs
+same-length-6 c = c .before .before .before .before .before .before .before .before .before .before .before .before
+    .step .kept .1 .1 .1 .1 .0
+    ∙ c .before .before .before .before .before .before .before .before .before .before .before .before .before
+    .before .before .before .before .before .before .loop .inv .1 .macs
 
 same-length-7 : tie.Need-same-length-7 Inv-loop μ-loop
-same-length-7 c =
-    c .before .before .before .before .before .before .before .before .before .before .before .before .step .kept .1 .1 .1 .1 .1 .0 ∙ c .before
-    .before .before .before .before .before .before .before .before .before .before .before .before .before .before .before .before .before .before
-    .loop .inv .1 .cache
+same-length-7 c = c .before .before .before .before .before .before .before .before .before .before .before .before
+    .step .kept .1 .1 .1 .1 .1 .0
+    ∙ c .before .before .before .before .before .before .before .before .before .before .before .before .before
+    .before .before .before .before .before .before .loop .inv .1 .cache
 
 same-length-8 : tie.Need-same-length-8 Inv-loop μ-loop
-same-length-8 c =
-    c .before .before .before .before .before .before .before .before .before .before .before .before .step .kept .1 .1 .1 .1 .1 .1 .0 ∙ c .before
-    .before .before .before .before .before .before .before .before .before .before .before .before .before .before .before .before .before .before
-    .loop .inv .1 .dir
+same-length-8 c = c .before .before .before .before .before .before .before .before .before .before .before .before
+    .step .kept .1 .1 .1 .1 .1 .1 .0
+    ∙ c .before .before .before .before .before .before .before .before .before .before .before .before .before
+    .before .before .before .before .before .before .loop .inv .1 .dir
 
 returns-2 : tie.Need-returns-2 Inv-loop μ-loop
 returns-2 c =
-    let turn = c .before .before .before .before .before .before .before .before .before .before .before .before .before .before .before .before .before .before .before .loop in
-    going-stops _ _ _ _ _ _ _ _ _ (omega (
+    let turn = c .before .before .before .before .before .before .before .before .before .before .before .before .before
+    .before .before .before .before .before .before .loop .inv .1 in
+    going-stops _ _ _ _ _ _ _ _ _
+    (omega (
       arith,
-      turn .inv .1 .within,
-      c .before .before .before .before .before .before .before .before .before
-          .before .before .before .before .before .before .before .before .before .if1 .left,
-    )) (c .before .before .before .before .before .before .before
-    .before .before .before .before .before .before .before .before .before .before .before .before .before .before .before .before .before .pre .1 .0
-    .1) (turn .inv .1) (c .before .before .before .before .before .before .before .before .before .before .before .before .step .ensures) (c .before
-    .before .add .ensures) (c .if2 .taken)
+      turn .within,
+      c .before .before .before .before .before .before .before .before .before .before .before .before .before
+          .before .before .before .before .before .if1 .left,
+    ))
+    (c .before .before .before .before .before .before .before .before .before .before .before .before .before
+    .before .before .before .before .before .before .before .before .before .before .before .before .pre .1 .0 .1)
+    turn (c .before .before .before .before .before .before .before .before .before .before .before .before .step
+    .ensures)
+    (c .before .before .add .ensures) (c .if2 .taken)
 
 pub steps-spec : {M : Type 1} → statement M
-steps-spec =
-    tie.close
-    (tie.spec
-    Inv-loop
-    μ-loop
-    loop-holds
-    step-requires
-    add-requires
-    add-i
-    loop-less
-    loop-again
-    same-length
-    same-length-2
-    same-length-3
-    same-length-4
-    returns
-    same-length-5
-    same-length-6
-    same-length-7
-    same-length-8
-    returns-2)
+steps-spec = tie.close (tie.spec Inv-loop μ-loop (λ c κs. search needs) loop-holds step-requires add-requires add-i
+    loop-less loop-again same-length same-length-2 same-length-3 same-length-4 returns same-length-5 same-length-6
+    same-length-7 same-length-8 returns-2)

@@ -1,0 +1,2 @@
+-- The laws of a board file's numbers.
+pub mod DigitLaws

@@ -1,0 +1,2 @@
+-- What the numbers of a board file say.
+pub mod Digits

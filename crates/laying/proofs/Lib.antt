@@ -1,0 +1,2 @@
+-- The laws of instruction words.
+pub mod WordLaws

@@ -1,0 +1,2 @@
+-- What the instruction words of a board file are.
+pub mod Words

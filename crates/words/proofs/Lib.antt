@@ -1,0 +1,2 @@
+-- The laws of `words`, file by file.
+pub mod Halves

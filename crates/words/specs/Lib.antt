@@ -1,0 +1,1 @@
+-- The words cite the definitions of `lists`; nothing is defined here.
