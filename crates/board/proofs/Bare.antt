@@ -24,17 +24,16 @@ use Rattle.registers.specs.declared.record.Processor.{Processor}
 use Rattle.machine.specs.declared.answer.Report.{Report}
 use Rattle.machine.specs.Lent.{Lent, handed}
 use Rattle.board.proofs.Locals.{allocates, receives, releases}
-use Rattle.board.proofs.Lending.{reportVal, copying, lending, storing, Answered, copies, lends, stores}
+use Rattle.board.proofs.Lending.{reportVal, copying, storing, Answered, copies, lends, stores}
 use Rattle.board.proofs.Promise.{Passing, apart, asked, Says, HandedBack, Asks, Gives, starts, ends}
-use Rattle.board.proofs.Wrapper.{byte, word, lentSlice, wrapper, passed, operand, Sliced, val, fitting, sliced}
+use Rattle.board.proofs.Wrapper.{fourLent, fourAgain, lendingFour, four, wrapper, passed, operand, Sliced, val}
+use Rattle.board.proofs.Wrapper.{fitting, sliced}
 use Rattle.board.proofs.Wrapper.{inner, outer, Inside, Outside, passing, asks, wraps}
 
 abbrev pub function : Name → Fn
 function f =
-    wrapper 5 5 (lentSlice 1 byte ∷ lentSlice 2 byte ∷ lentSlice 3 byte ∷ lentSlice 4 word ∷ []) (byte ∷ byte ∷ byte
-    ∷ word ∷ [])
-    (copying 7 (lending byte 2 8 9 (lending byte 3 10 11 (lending byte 4 12 13
-    (lending word 5 14 15 (seq (call f (passed (7 ∷ 9 ∷ 11 ∷ 13 ∷ 15 ∷ [])) (place 6 [])) (storing 6)))))))
+    wrapper 5 5 (fourLent []) (fourAgain [])
+    (copying 7 (lendingFour 8 (seq (call f (passed (7 ∷ 9 ∷ 11 ∷ 13 ∷ 15 ∷ [])) (place 6 [])) (storing 6))))
 
 module _ {M : Type 1} (𝓤 : URA M) (H : Heap 𝓤) (A : Atoms 𝓤) (W : Given 𝓤 H A) (C : Calls 𝓤 H) (Λ : Loops 𝓤 H)
     (fm : FmC 𝓤 H (W .laws) C) (f : Name) (c : Passing 𝓤) where
@@ -43,7 +42,8 @@ module _ {M : Type 1} (𝓤 : URA M) (H : Heap 𝓤) (A : Atoms 𝓤) (W : Given
   walk s₁ s₂ s₃ s₄ met =
       via 𝓤 (⋆ 𝓤 H A (apart 𝓤 H A c)) (starts 𝓤 H A c W)
       (qed W (apart 𝓤 H A c) ∵ enter ! C Λ (function f) _ _ $
-      allocates ! (λ bs. receives ! _ _ _ _ ((tt, tt), (fitting s₁, (fitting s₂, (fitting s₃, (fitting s₄, tt))))) $
+      allocates ! (λ bs. receives ! _ _ _ _
+      ((tt, tt), four (fitting s₁) (fitting s₂) (fitting s₃) (fitting s₄) tt) $
       move ! (17 ∷ 18 ∷ 19 ∷ []) $ copies ! 7 (c .lent .now) (refl, refl) (refl, refl) $
       lends ! 2 8 9 (s₁ .fits) (refl, refl) (refl, refl) (refl, refl) (refl, refl) (refl, refl) $
       lends ! 3 10 11 (s₂ .fits) (refl, refl) (refl, refl) (refl, refl) (refl, refl) (refl, refl) $
@@ -80,18 +80,14 @@ module _ (Φ : Lent → Report → Lent → Type 0) where
       → Meets 𝓤 H A (outer 4 wrappers) (WpFn 𝓤 H (𝓣 .C) (𝓣 .Λ) (function f)) (Outside 𝓤 H A 4 wrappers (λ κs. promised))
   meets 𝓤 H A W 𝓣 f known =
       wraps 𝓤 H A 4 wrappers (λ κs. promised) (𝓣 .C) (𝓣 .Λ) (function f)
-      (λ κs. (slice-vals, (slice-vals, (slice-vals, (slice-vals, tt)))))
-      (λ κs. (
-        mut-slice-tells (named 1) (κs .1 .0) u8,
-        (
-          mut-slice-tells (named 2) (κs .1 .1 .0) u8,
-          (mut-slice-tells (named 3) (κs .1 .1 .1 .0) u8, (mut-slice-tells (named 4) (κs .1 .1 .1 .1 .0) u32, tt)),
-        ),
-      ))
-      (λ κs qs a vss are. let us : Valss (typesAt callees (κs .1)) = (
-        slice-vals (a .1 .0),
-        (slice-vals (a .1 .1 .0), (slice-vals (a .1 .1 .1 .0), (slice-vals (a .1 .1 .1 .1 .0), tt))),
-      ) in
+      (λ κs. four slice-vals slice-vals slice-vals slice-vals tt)
+      (λ κs. four (mut-slice-tells (named 1) (κs .1 .0) u8) (mut-slice-tells (named 2) (κs .1 .1 .0) u8)
+      (mut-slice-tells (named 3) (κs .1 .1 .1 .0) u8) (mut-slice-tells (named 4) (κs .1 .1 .1 .1 .0) u32)
+      tt)
+      (λ κs qs a vss are.
+      let us : Valss (typesAt callees (κs .1)) =
+      four (slice-vals (a .1 .0)) (slice-vals (a .1 .1 .0)) (slice-vals (a .1 .1 .1 .0)) (slice-vals (a .1 .1 .1 .1 .0))
+      tt in
       walk 𝓤 H A W (𝓣 .C) (𝓣 .Λ) (fmOf 𝓤 H (W .laws) 𝓣) f (passing 𝓤 H A 4 callees (λ κs. promised) (κs .0) (qs .0)
       (a .0) (κs .1) (qs .1) (a .1) us)
       (sliced (a .1 .0) (are .1 .0 .0 .1 .0)) (sliced (a .1 .1 .0) (are .1 .1 .0 .0 .1 .0))

@@ -26,17 +26,16 @@ use Rattle.registers.specs.declared.record.Processor.{Processor}
 use Rattle.machine.specs.declared.answer.Report.{Report}
 use Rattle.machine.specs.Lent.{Lent, handed}
 use Rattle.board.proofs.Locals.{allocates, receives, releases}
-use Rattle.board.proofs.Lending.{reportVal, copying, lending, storing, Answered, copies, lends, stores}
+use Rattle.board.proofs.Lending.{reportVal, copying, storing, Answered, copies, lends, stores}
 use Rattle.board.proofs.Promise.{Passing, apart, asked, Says, HandedBack, Asks, Gives, starts, ends}
-use Rattle.board.proofs.Wrapper.{byte, word, lentSlice, wrapper, passed, operand, Sliced, val, fitting, sliced}
+use Rattle.board.proofs.Wrapper.{fourLent, fourAgain, lendingFour, four, wrapper, passed, operand, Sliced, val}
+use Rattle.board.proofs.Wrapper.{fitting, sliced}
 use Rattle.board.proofs.Wrapper.{inner, outer, Inside, Outside, passing, asks, wraps}
 
 abbrev pub function : Name → Fn
 function f =
-    wrapper 5 6 (lentSlice 1 byte ∷ lentSlice 2 byte ∷ lentSlice 3 byte ∷ lentSlice 4 word ∷ tyInt w64 ∷ []) (byte
-    ∷ byte ∷ byte ∷ word ∷ [])
-    (copying 8 (lending byte 2 9 10 (lending byte 3 11 12 (lending byte 4 13 14
-    (lending word 5 15 16 (seq (call f (passed (8 ∷ 10 ∷ 12 ∷ 14 ∷ 16 ∷ 6 ∷ [])) (place 7 [])) (storing 7)))))))
+    wrapper 5 6 (fourLent (tyInt w64 ∷ [])) (fourAgain [])
+    (copying 8 (lendingFour 9 (seq (call f (passed (8 ∷ 10 ∷ 12 ∷ 14 ∷ 16 ∷ 6 ∷ [])) (place 7 [])) (storing 7))))
 
 module _ {M : Type 1} (𝓤 : URA M) (H : Heap 𝓤) (A : Atoms 𝓤) (W : Given 𝓤 H A) (C : Calls 𝓤 H) (Λ : Loops 𝓤 H)
     (fm : FmC 𝓤 H (W .laws) C) (f : Name) (c : Passing 𝓤) where
@@ -45,13 +44,8 @@ module _ {M : Type 1} (𝓤 : URA M) (H : Heap 𝓤) (A : Atoms 𝓤) (W : Given
   walk s₁ s₂ s₃ s₄ n fits met =
       via 𝓤 (⋆ 𝓤 H A (apart 𝓤 H A c)) (starts 𝓤 H A c W)
       (qed W (apart 𝓤 H A c) ∵ enter ! C Λ (function f) _ _ $
-      allocates ! (λ bs. receives ! _ _ _ _ (
-        (tt, tt),
-        (
-          fitting s₁,
-          (fitting s₂, (fitting s₃, (fitting s₄, ((tt, record { fits = fits }), tt)))),
-        ),
-      ) $
+      allocates ! (λ bs. receives ! _ _ _ _
+      ((tt, tt), four (fitting s₁) (fitting s₂) (fitting s₃) (fitting s₄) ((tt, record { fits = fits }), tt)) $
       move ! (18 ∷ 19 ∷ 20 ∷ []) $ copies ! 8 (c .lent .now) (refl, refl) (refl, refl) $
       lends ! 2 9 10 (s₁ .fits) (refl, refl) (refl, refl) (refl, refl) (refl, refl) (refl, refl) $
       lends ! 3 11 12 (s₂ .fits) (refl, refl) (refl, refl) (refl, refl) (refl, refl) (refl, refl) $
@@ -91,30 +85,14 @@ module _ (Φ : ℕ → Lent → Report → Lent → Type 0) where
       → Meets 𝓤 H A (outer 4 wrappers) (WpFn 𝓤 H (𝓣 .C) (𝓣 .Λ) (function f)) (Outside 𝓤 H A 4 wrappers (λ κs. promised))
   meets 𝓤 H A W 𝓣 f known =
       wraps 𝓤 H A 4 wrappers (λ κs. promised) (𝓣 .C) (𝓣 .Λ) (function f)
-      (λ κs. (slice-vals, (slice-vals, (slice-vals, (slice-vals, (uint-vals w64, tt))))))
-      (λ κs. (
-        mut-slice-tells (named 1) (κs .1 .0) u8,
-        (
-          mut-slice-tells (named 2) (κs .1 .1 .0) u8,
-          (
-            mut-slice-tells (named 3) (κs .1 .1 .1 .0) u8,
-            (
-              mut-slice-tells (named 4) (κs .1 .1 .1 .1 .0) u32,
-              (uint-tells w64, tt),
-            ),
-          ),
-        ),
-      ))
-      (λ κs qs a vss are. let us : Valss (typesAt callees (κs .1)) = (
-        slice-vals (a .1 .0),
-        (
-          slice-vals (a .1 .1 .0),
-          (
-            slice-vals (a .1 .1 .1 .0),
-            (slice-vals (a .1 .1 .1 .1 .0), (uint-vals w64 (a .1 .1 .1 .1 .1 .0), tt)),
-          ),
-        ),
-      ) in
+      (λ κs. four slice-vals slice-vals slice-vals slice-vals (uint-vals w64, tt))
+      (λ κs. four (mut-slice-tells (named 1) (κs .1 .0) u8) (mut-slice-tells (named 2) (κs .1 .1 .0) u8)
+      (mut-slice-tells (named 3) (κs .1 .1 .1 .0) u8) (mut-slice-tells (named 4) (κs .1 .1 .1 .1 .0) u32)
+      (uint-tells w64, tt))
+      (λ κs qs a vss are.
+      let us : Valss (typesAt callees (κs .1)) =
+      four (slice-vals (a .1 .0)) (slice-vals (a .1 .1 .0)) (slice-vals (a .1 .1 .1 .0)) (slice-vals (a .1 .1 .1 .1 .0))
+      (uint-vals w64 (a .1 .1 .1 .1 .1 .0), tt) in
       walk 𝓤 H A W (𝓣 .C) (𝓣 .Λ) (fmOf 𝓤 H (W .laws) 𝓣) f (passing 𝓤 H A 4 callees (λ κs. promised) (κs .0) (qs .0)
       (a .0) (κs .1) (qs .1) (a .1) us)
       (sliced (a .1 .0) (are .1 .0 .0 .1 .0)) (sliced (a .1 .1 .0) (are .1 .1 .0 .0 .1 .0))

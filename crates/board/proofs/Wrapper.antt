@@ -1,6 +1,6 @@
 -- A wrapper's function, its contract and its callee's, for any arguments after the record: the walks of the four
 -- shapes and their theorems are made of these.
-use Prim.Native.Nat.{ℕ, zero, suc, _<_, _^_}
+use Prim.Native.Nat.{ℕ, zero, suc, _+_, _<_, _^_}
 use mathlib.Core.List.{List, [], _∷_, _++_}
 use lib.Dec.{T as Holds}
 use lib.ListN.{length}
@@ -36,7 +36,7 @@ use Rattle.machine.proofs.answer.Report as R
 use Rattle.machine.proofs.answer.Report.Laws as R′
 use Rattle.machine.proofs.answer.Answer as T
 use Rattle.machine.proofs.answer.Answer.Laws as T′
-use Rattle.board.proofs.Lending.{recordVal, lentTy}
+use Rattle.board.proofs.Lending.{recordVal, lentTy, lending}
 use Rattle.board.proofs.Promise.{Passing, Asks}
 
 -- ---- the function
@@ -74,6 +74,23 @@ wrapper lifetimes params rest slices body =
 abbrev pub passed : List ℕ → List Opd
 passed [] = []
 passed (i ∷ is) = copy (place i []) ∷ passed is
+
+-- ---- the four lent slices that every call has, and what stands behind them
+abbrev pub fourLent : List Ty → List Ty
+fourLent rest = lentSlice 1 byte ∷ lentSlice 2 byte ∷ lentSlice 3 byte ∷ lentSlice 4 word ∷ rest
+
+abbrev pub fourAgain : List Ty → List Ty
+fourAgain rest = byte ∷ byte ∷ byte ∷ word ∷ rest
+
+-- they are lent again, by way of the locals from j on
+abbrev pub lendingFour : ℕ → Body → Body
+lendingFour j rest =
+    lending byte 2 j (j + 1) (lending byte 3 (j + 2) (j + 3) (lending byte 4 (j + 4) (j + 5)
+    (lending word 5 (j + 6) (j + 7) rest)))
+
+-- one thing for each of them, and for what stands behind them
+abbrev pub four {ℓ} : {A B C D E : Type ℓ} → A → B → C → D → E → A × (B × (C × (D × E)))
+four a b c d e = (a, (b, (c, (d, e))))
 
 pub operand : {M : Type 1} {𝓤 : URA M} {H : Heap 𝓤} {A : Atoms 𝓤} {K : Type 0} {W : Given 𝓤 H A} {Γ : List
     (Item 𝓤)} {E : Env 𝓤 H} → K → {i : ℕ} {xs : List Opd} {v : Val} {vs : List Val}
