@@ -13,7 +13,7 @@ returns c =
     let args = words .before .before .args in
     run .unchain .ensures
     ∙ eqDecrypt-cbcDecrypt (args .key .now) (words .expand .result) (inverse .invert .result) (args .iv .now)
-        (args .b .now)
+    (args .b .now)
     (words .expand .ensures) (inverse .invert .ensures)
 
 pub decrypt-spec : {M : Type 1} → statement M

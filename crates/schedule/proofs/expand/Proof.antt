@@ -39,7 +39,7 @@ loop-again c =
       turn .inv .1,
       rw (c .put2 .ensures) (laid-next (args .key .now) (turn .w) (turn .r) (turn .x) (next .result) (omega arith)
           (with-constant _ (turn .r) (turn .x) (next .result) (turn .inv .1) (omega arith) (next .ensures))
-              (turn .inv .2)),
+          (turn .inv .2)),
     )
 
 returns : tie.Need-returns Inv-loop μ-loop
