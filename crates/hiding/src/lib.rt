@@ -20,7 +20,7 @@ pub fn hash(hi: u64, lo: u64, r: [u64; 32]) -> [u8; 16]
         texts::put(&word, &mut m, i * 8 - 7);
         i += 1;
     }
-    cmac::sign(&sealing::signing_words(hi, lo), &m)
+    sealing::mac_of(hi, lo, &m)
 }
 
 // The hash with j xored into its last byte.

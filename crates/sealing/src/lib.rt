@@ -4,15 +4,14 @@ ghost use mathlib.Core.List.{_++_};
 ghost use lib.ListN.{length};
 ghost use Rattle.lists.specs.Bytes.{same};
 ghost use Rattle.lists.specs.Words.{bigBytes};
-ghost use Rattle.aes_standard.specs.Schedule.{keyExpansion};
 ghost use Rattle.aes_standard.specs.Cipher.{cipher};
 ghost use Rattle.sealing.specs.Lines.{drkOf, macOf, lineKey, codeMac, dataMac, enciphered, deciphered};
 
-// The words under which a DRK signs.
-pub fn signing_words(hi: u64, lo: u64) -> [u32; 44]
-    ensures { λ r. ⌜ r ≡ keyExpansion (drkOf hi lo) ⌝ }
+// CMAC of any bytes under a DRK.
+pub fn mac_of(hi: u64, lo: u64, m: &[u8]) -> [u8; 16]
+    ensures { λ r. ⌜ r ≡ macOf (drkOf hi lo) (now (m .entry)) ⌝ }
 {
-    aes::expand(&texts::pair(hi, lo))
+    cmac::sign(&aes::expand(&texts::pair(hi, lo)), m)
 }
 
 // The line key of a DRK.
@@ -20,7 +19,7 @@ pub fn line_key(hi: u64, lo: u64) -> [u8; 16]
     ensures { λ r. ⌜ r ≡ lineKey (drkOf hi lo) ⌝ }
 {
     let m = [1u8; 1];
-    cmac::sign(&signing_words(hi, lo), &m)
+    mac_of(hi, lo, &m)
 }
 
 // The initialization vector of the line at an address, under the words of its line key.
@@ -37,7 +36,7 @@ pub fn code_mac(hi: u64, lo: u64, address: u64, code: &[u8]) -> [u8; 16]
 {
     let mut m = [0u8; 57];
     texts::signed_text(2, address, code, &mut m);
-    cmac::sign(&signing_words(hi, lo), &m)
+    mac_of(hi, lo, &m)
 }
 
 // The MAC of the 64 encrypted bytes of the data line at an address.
@@ -47,7 +46,7 @@ pub fn data_mac(hi: u64, lo: u64, address: u64, line: &[u8]) -> [u8; 16]
 {
     let mut m = [0u8; 73];
     texts::signed_text(3, address, line, &mut m);
-    cmac::sign(&signing_words(hi, lo), &m)
+    mac_of(hi, lo, &m)
 }
 
 // Seals the data line at an address, in place.
@@ -80,5 +79,5 @@ pub fn derive(hi: u64, lo: u64, a: u64, b: u64) -> [u8; 16]
     ensures { λ r. ⌜ r ≡ macOf (drkOf hi lo) (bigBytes 8 a ++ bigBytes 8 b) ⌝ }
 {
     let m = texts::pair(a, b);
-    cmac::sign(&signing_words(hi, lo), &m)
+    mac_of(hi, lo, &m)
 }
