@@ -1,7 +1,7 @@
 -- The cold run and the warm run, on the machine of document 01 with a cache.
 use Prim.Native.Nat.{ℕ}
 use Rattle.model.specs.Cached.{Cached}
-use Rattle.instructions.specs.Record.{Processor}
+use Rattle.instructions.specs.Record.{Processor, keeping}
 use Rattle.instructions.specs.Calls.{run, powerCut, Machine, Result}
 use Rattle.registers.specs.declared.record.Processor as code
 use Rattle.registers.specs.Map.{processorOf, keyOf}
@@ -16,20 +16,10 @@ emptied m = record { processor = m .processor; memory = resultOf powerCut m .mac
 unfoldable pub coldRun : ℕ → Machine Cached → Result Cached
 coldRun n m = resultOf (run n) (emptied m)
 
--- the record to start from again: as it was given, but for the SRH (and the DRK, which is the memory's), which every
--- restart keeps
-unfoldable pub startAgain : Processor → Processor → Processor
-startAgain r left =
-    let k = r .cem in
-    record {
-      regs = r .regs;
-      pc = r .pc;
-      epc = r .epc;
-      cause = r .cause;
-      pid = r .pid;
-      cid = r .cid;
-      cem = record { mode = k .mode; lock = k .lock; srh = left .cem .srh; buffer = k .buffer; saved = k .saved };
-    }
+-- the record to start from again: as it was given, but for what every restart keeps (the SRH, and the DRK, which is the
+-- memory's)
+abbrev pub startAgain : Processor → Processor → Processor
+startAgain r left = keeping left r
 
 -- the same start again, on what a run left of a machine
 unfoldable pub again : {S : Type 0} → Processor → Machine S → Machine S

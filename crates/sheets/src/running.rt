@@ -4,6 +4,7 @@ use crate::sheet::Sheet;
 use host::restarts;
 use host::running as calls;
 use machine::answer::Answer;
+use registers::record;
 use registers::record::Processor;
 ghost use mathlib.Core.Path.{_≡_};
 ghost use mathlib.Core.List.{[]};
@@ -47,16 +48,7 @@ fn cold(
 pub fn again(p: Processor, left: Processor) -> Processor
     ensures { λ r. ⌜ StartsAgain p left r ⌝ }
 {
-    let r = p.r;
-    let mut q = p.special;
-    let s = left.special;
-    q.drkhi = s.drkhi;
-    q.drklo = s.drklo;
-    q.srh0 = s.srh0;
-    q.srh1 = s.srh1;
-    q.srh2 = s.srh2;
-    q.srh3 = s.srh3;
-    Processor { r, special: q }
+    record::keeping(left, p)
 }
 
 // A run of n instructions from an empty cache, the same run again with the cache as it was left, and their sheets.
