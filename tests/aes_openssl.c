@@ -1,4 +1,5 @@
-/* Compares hq_aes_encipher and hq_aes_decipher with OpenSSL's AES-128 on 100,000 pseudo-random keys and blocks; status 1 on a difference. */
+/* Compares hq_aes_encipher and hq_aes_decipher with OpenSSL's AES-128 on keys and blocks of zeros, of ones and of a single bit, and on 100,000
+   pseudo-random ones; status 1 on a difference. */
 #include <openssl/crypto.h>
 #include <openssl/evp.h>
 #include <stdio.h>
@@ -34,12 +35,28 @@ static int differences(EVP_CIPHER_CTX *ctx, const uint8_t key[16], const uint8_t
     return wrong;
 }
 
+/* The number of differences on keys and blocks of zeros or ones alone, and of a single bit in either. */
+static long plain_differences(EVP_CIPHER_CTX *ctx)
+{
+    static const uint8_t zeros[16];
+    uint8_t ones[16], bit[16];
+    memset(ones, 255, 16);
+    long wrong = differences(ctx, zeros, zeros) + differences(ctx, zeros, ones) + differences(ctx, ones, zeros) + differences(ctx, ones, ones);
+    for (int n = 0; n < 128; n++) {
+        memset(bit, 0, 16);
+        bit[n / 8] = (uint8_t)(1 << n % 8);
+        wrong += differences(ctx, bit, zeros) + differences(ctx, zeros, bit);
+    }
+    return wrong;
+}
+
 int main(void)
 {
     EVP_CIPHER_CTX *ctx = EVP_CIPHER_CTX_new();
     long wrong = 0;
     if (ctx == NULL)
         return 1;
+    wrong += plain_differences(ctx);
     for (int i = 0; i < PAIRS; i++) {
         uint8_t key[16], block[16];
         fill(key, 16);
@@ -48,6 +65,6 @@ int main(void)
     }
     EVP_CIPHER_CTX_free(ctx);
     printf("AES-128 beside %s: %d keys and blocks, both directions, %ld differences\n",
-           OpenSSL_version(OPENSSL_VERSION), PAIRS, wrong);
+           OpenSSL_version(OPENSSL_VERSION), 4 + 256 + PAIRS, wrong);
     return wrong != 0;
 }

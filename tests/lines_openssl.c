@@ -1,4 +1,4 @@
-/* Compares hq_cbc_encrypt, hq_cbc_decrypt, hq_cmac, hq_seal and hq_unseal with OpenSSL's CBC and CMAC; status 1 on a difference. */
+/* Compares hq_cbc_encrypt, hq_cbc_decrypt, hq_cmac, hq_seal, hq_unseal, hq_code_mac and hq_data_mac with OpenSSL's CBC and CMAC; status 1 on a difference. */
 #include <openssl/core_names.h>
 #include <openssl/crypto.h>
 #include <openssl/evp.h>
@@ -64,6 +64,18 @@ static void openssl_line(int seals, uint64_t hi, uint64_t lo, uint64_t address, 
     openssl_cbc(seals, key, iv, line, 64);
 }
 
+/* The MAC of n bytes of a line by OpenSSL: CMAC under the DRK of a byte that says what for, the address and the bytes. */
+static void openssl_mac(uint8_t prefix, uint64_t hi, uint64_t lo, uint64_t address, const uint8_t *bytes, size_t n, uint8_t out[16])
+{
+    uint8_t drk[16], text[9 + 64];
+    high_first(hi, drk);
+    high_first(lo, drk + 8);
+    text[0] = prefix;
+    high_first(address, text + 1);
+    memcpy(text + 9, bytes, n);
+    openssl_cmac(drk, text, 9 + n, out);
+}
+
 /* The number of differences in CBC on n bytes under one key, 0 to 2. */
 static int cbc_differences(const uint8_t key[16], const uint32_t w[44], size_t n)
 {
@@ -93,11 +105,11 @@ static int cmac_differences(const uint8_t key[16], const uint32_t w[44], size_t 
     return memcmp(ours, theirs, 16) != 0;
 }
 
-/* The number of differences on one line at an address, 0 to 3: sealed, opened, and there and back. */
+/* The number of differences on one line at an address, 0 to 5: sealed, opened, there and back, and both MACs. */
 static int line_differences(uint64_t address)
 {
     uint64_t hi = next_number(), lo = next_number();
-    uint8_t line[64], ours[64], theirs[64];
+    uint8_t line[64], ours[64], theirs[64], mac[16], their_mac[16];
     int wrong = 0;
     fill(line, 64);
     memcpy(ours, line, 64);
@@ -111,6 +123,12 @@ static int line_differences(uint64_t address)
     hq_unseal(hi, lo, address, ours, 64);
     openssl_line(0, hi, lo, address, theirs);
     wrong += memcmp(ours, theirs, 64) != 0;
+    hq_code_mac(hi, lo, address, line, mac);
+    openssl_mac(2, hi, lo, address, line, 48, their_mac);
+    wrong += memcmp(mac, their_mac, 16) != 0;
+    hq_data_mac(hi, lo, address, line, mac);
+    openssl_mac(3, hi, lo, address, line, 64, their_mac);
+    wrong += memcmp(mac, their_mac, 16) != 0;
     return wrong;
 }
 

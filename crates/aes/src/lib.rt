@@ -1,13 +1,8 @@
 // AES-128 (FIPS 197): a key schedule for many blocks, a block enciphered or deciphered, and whole blocks in a chain.
-pub mod chain;
-mod cipher;
-mod columns;
-mod rounds;
-mod schedule;
-
+use rounds::columns;
 ghost use mathlib.Core.Path.{_≡_};
-ghost use Rattle.aes.specs.Cipher.{cipher, invCipher};
-ghost use Rattle.aes.specs.Schedule.{keyExpansion};
+ghost use Rattle.aes_standard.specs.Cipher.{cipher, invCipher};
+ghost use Rattle.aes_standard.specs.Schedule.{keyExpansion};
 
 // KeyExpansion: the 44 words that encipher under a key.
 pub fn expand(key: &[u8; 16]) -> [u32; 44]
@@ -27,12 +22,13 @@ pub fn encipher(w: &[u32; 44], block: &[u8; 16]) -> [u8; 16]
 
 // Cipher: a block under the words of a key schedule goes to out.
 //
-// Each word is laid down right after it is read: so its four bytes become one store, and whoever reads the block by words next need not wait.
+// Each word is laid down right after it is read: so its four bytes become one store, and whoever reads the block by
+// words next need not wait.
 pub fn encipher_to(w: &[u32; 44], block: &[u8; 16], out: &mut [u8; 16])
     ensures { λ _. ⌜ now (out .exit) ≡ cipher (now (w .entry)) (now (block .entry)) ⌝ }
 {
-    let t = field::mixed();
-    let x = cipher::through(&t, &t, w, columns::columns_of(block));
+    let t = tables::mixed();
+    let x = ways::through(&t, &t, w, columns::columns_of(block));
     columns::put_word(x.a, out, 0);
     columns::put_word(x.b, out, 4);
     columns::put_word(x.c, out, 8);
@@ -45,8 +41,8 @@ pub fn decipher(key: &[u8; 16], block: &[u8; 16]) -> [u8; 16]
 {
     let w = schedule::expand(key);
     let v = schedule::invert(&w);
-    let t = field::unmixed();
-    let u = field::inv_sbox();
-    let x = cipher::through(&t, &u, &v, columns::flip(columns::columns_of(block)));
+    let t = tables::unmixed();
+    let u = tables::inv_sbox();
+    let x = ways::through(&t, &u, &v, columns::flip(columns::columns_of(block)));
     columns::bytes_of(columns::flip(x))
 }

@@ -7,4 +7,4 @@ pub mod Bare
 pub mod Numbered
 pub mod Filling
 pub mod Sending
-pub mod Rows
+pub mod FilledRow

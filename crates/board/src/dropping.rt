@@ -1,8 +1,9 @@
 // Lines dropped, on the record behind a reference: one line, or all of them.
-use host::answer::Report;
+use machine::answer::Report;
 use registers::record::Processor;
 ghost use mathlib.Core.List.{[]};
 ghost use Rattle.instructions.specs.Calls.{evictLine, writeBackAll};
+ghost use Rattle.machine.specs.Lent.{before, after};
 ghost use Rattle.host.specs.Outcome.{Leaves};
 
 // Line n is evicted where its slot holds it.
@@ -15,7 +16,8 @@ pub extern "C" fn hq_evict_line(
     dir: &mut [u32],
     n: u64,
 ) -> Report
-    ensures { λ x. ⌜ Leaves (evictLine n) (now (p .entry)) (now (mem .entry)) (now (macs .entry)) (now (cache .entry)) (now (dir .entry)) (now (p .exit)) x [] (now (mem .exit)) (now (macs .exit)) (now (cache .exit)) (now (dir .exit)) ⌝ }
+    ensures { λ x. ⌜ Leaves (evictLine n) (before (now (p .entry)) mem macs cache dir) x []
+        (after (now (p .exit)) mem macs cache dir) ⌝ }
 {
     let a = host::dropping::evict_line(*p, mem, macs, cache, dir, n);
     *p = a.processor;
@@ -31,7 +33,8 @@ pub extern "C" fn hq_write_back(
     cache: &mut [u8],
     dir: &mut [u32],
 ) -> Report
-    ensures { λ x. ⌜ Leaves writeBackAll (now (p .entry)) (now (mem .entry)) (now (macs .entry)) (now (cache .entry)) (now (dir .entry)) (now (p .exit)) x [] (now (mem .exit)) (now (macs .exit)) (now (cache .exit)) (now (dir .exit)) ⌝ }
+    ensures { λ x. ⌜ Leaves writeBackAll (before (now (p .entry)) mem macs cache dir) x []
+        (after (now (p .exit)) mem macs cache dir) ⌝ }
 {
     let a = host::dropping::write_back(*p, mem, macs, cache, dir);
     *p = a.processor;

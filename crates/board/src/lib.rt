@@ -1,4 +1,5 @@
-// The outer face: each call of the host with the processor's record lent by reference, under a plain name that C can link.
+// The outer face: each call of the host with the processor's record lent by reference, under a plain name that C can
+// link.
 pub mod dropping;
 pub mod listing;
 pub mod restarts;

@@ -1,8 +1,9 @@
 // Reboot and power cut, on the record behind a reference.
-use host::answer::Report;
+use machine::answer::Report;
 use registers::record::Processor;
 ghost use mathlib.Core.List.{[]};
 ghost use Rattle.instructions.specs.Calls.{reboot, powerCut};
+ghost use Rattle.machine.specs.Lent.{before, after};
 ghost use Rattle.host.specs.Outcome.{Leaves};
 
 // Everything is written back, every slot emptied, and the record cleared but for DRK and SRH.
@@ -14,7 +15,8 @@ pub extern "C" fn hq_reboot(
     cache: &mut [u8],
     dir: &mut [u32],
 ) -> Report
-    ensures { λ x. ⌜ Leaves reboot (now (p .entry)) (now (mem .entry)) (now (macs .entry)) (now (cache .entry)) (now (dir .entry)) (now (p .exit)) x [] (now (mem .exit)) (now (macs .exit)) (now (cache .exit)) (now (dir .exit)) ⌝ }
+    ensures { λ x. ⌜ Leaves reboot (before (now (p .entry)) mem macs cache dir) x []
+        (after (now (p .exit)) mem macs cache dir) ⌝ }
 {
     let a = host::restarts::reboot(*p, mem, macs, cache, dir);
     *p = a.processor;
@@ -30,7 +32,8 @@ pub extern "C" fn hq_power_cut(
     cache: &mut [u8],
     dir: &mut [u32],
 ) -> Report
-    ensures { λ x. ⌜ Leaves powerCut (now (p .entry)) (now (mem .entry)) (now (macs .entry)) (now (cache .entry)) (now (dir .entry)) (now (p .exit)) x [] (now (mem .exit)) (now (macs .exit)) (now (cache .exit)) (now (dir .exit)) ⌝ }
+    ensures { λ x. ⌜ Leaves powerCut (before (now (p .entry)) mem macs cache dir) x []
+        (after (now (p .exit)) mem macs cache dir) ⌝ }
 {
     let a = host::restarts::power_cut(*p, mem, macs, cache, dir);
     *p = a.processor;

@@ -1,8 +1,9 @@
 // Run and interrupt, on the record behind a reference.
-use host::answer::Report;
+use machine::answer::Report;
 use registers::record::Processor;
 ghost use mathlib.Core.List.{[]};
 ghost use Rattle.instructions.specs.Calls.{run, interrupt};
+ghost use Rattle.machine.specs.Lent.{before, after};
 ghost use Rattle.host.specs.Outcome.{Leaves};
 
 // At most n instructions, up to the first that faults; a single step is n = 1.
@@ -15,7 +16,8 @@ pub extern "C" fn hq_run(
     dir: &mut [u32],
     n: u64,
 ) -> Report
-    ensures { λ x. ⌜ Leaves (run n) (now (p .entry)) (now (mem .entry)) (now (macs .entry)) (now (cache .entry)) (now (dir .entry)) (now (p .exit)) x [] (now (mem .exit)) (now (macs .exit)) (now (cache .exit)) (now (dir .exit)) ⌝ }
+    ensures { λ x. ⌜ Leaves (run n) (before (now (p .entry)) mem macs cache dir) x [] (after (now (p .exit))
+        mem macs cache dir) ⌝ }
 {
     let a = host::running::run(*p, mem, macs, cache, dir, n);
     *p = a.processor;
@@ -31,7 +33,8 @@ pub extern "C" fn hq_interrupt(
     cache: &mut [u8],
     dir: &mut [u32],
 ) -> Report
-    ensures { λ x. ⌜ Leaves interrupt (now (p .entry)) (now (mem .entry)) (now (macs .entry)) (now (cache .entry)) (now (dir .entry)) (now (p .exit)) x [] (now (mem .exit)) (now (macs .exit)) (now (cache .exit)) (now (dir .exit)) ⌝ }
+    ensures { λ x. ⌜ Leaves interrupt (before (now (p .entry)) mem macs cache dir) x []
+        (after (now (p .exit)) mem macs cache dir) ⌝ }
 {
     let a = host::running::interrupt(*p, mem, macs, cache, dir);
     *p = a.processor;

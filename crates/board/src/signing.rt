@@ -23,7 +23,8 @@ pub extern "C" fn hq_depot_seal(
     line: &mut [u8],
     mac: &mut [u8],
 ) -> u32
-    ensures { λ r. ⌜ gave r (now (line .exit)) (now (mac .exit)) ≡ depotSeal aesCipher (drkOf hi lo) address (now (line .entry)) (now (mac .entry)) ⌝ }
+    ensures { λ r. ⌜ gave r (now (line .exit)) (now (mac .exit))
+        ≡ depotSeal aesCipher (drkOf hi lo) address (now (line .entry)) (now (mac .entry)) ⌝ }
 {
     depot::seal(hi, lo, address, line, mac)
 }
@@ -31,7 +32,8 @@ pub extern "C" fn hq_depot_seal(
 // Opens a sealed data line whose MAC is right.
 #[no_mangle]
 pub extern "C" fn hq_depot_open(hi: u64, lo: u64, address: u64, line: &mut [u8], mac: &[u8]) -> u32
-    ensures { λ r. ⌜ gave r (now (line .exit)) (now (mac .entry)) ≡ depotOpen aesCipher (drkOf hi lo) address (now (line .entry)) (now (mac .entry)) ⌝ }
+    ensures { λ r. ⌜ gave r (now (line .exit)) (now (mac .entry))
+        ≡ depotOpen aesCipher (drkOf hi lo) address (now (line .entry)) (now (mac .entry)) ⌝ }
 {
     depot::open_line(hi, lo, address, line, mac)
 }

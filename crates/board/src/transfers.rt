@@ -1,7 +1,8 @@
 // The bus, on the record behind a reference: a line read or written, a MAC entry written; each first evicts that line.
-use host::answer::Report;
+use machine::answer::Report;
 use registers::record::Processor;
 ghost use Rattle.instructions.specs.Calls.{busRead, busWrite, busMac};
+ghost use Rattle.machine.specs.Lent.{before, after};
 ghost use Rattle.host.specs.Outcome.{Leaves};
 
 // Line n of memory goes to a buffer of 64 bytes.
@@ -15,7 +16,8 @@ pub extern "C" fn hq_bus_read(
     line: &mut [u8],
     n: u64,
 ) -> Report
-    ensures { λ x. ⌜ Leaves (busRead n (now (line .entry))) (now (p .entry)) (now (mem .entry)) (now (macs .entry)) (now (cache .entry)) (now (dir .entry)) (now (p .exit)) x (now (line .exit)) (now (mem .exit)) (now (macs .exit)) (now (cache .exit)) (now (dir .exit)) ⌝ }
+    ensures { λ x. ⌜ Leaves (busRead n (now (line .entry))) (before (now (p .entry)) mem macs cache dir)
+        x (now (line .exit)) (after (now (p .exit)) mem macs cache dir) ⌝ }
 {
     let a = host::transfers::bus_read(*p, mem, macs, cache, dir, line, n);
     *p = a.processor;
@@ -33,7 +35,8 @@ pub extern "C" fn hq_bus_write(
     line: &[u8],
     n: u64,
 ) -> Report
-    ensures { λ x. ⌜ Leaves (busWrite n (now (line .entry))) (now (p .entry)) (now (mem .entry)) (now (macs .entry)) (now (cache .entry)) (now (dir .entry)) (now (p .exit)) x (now (line .entry)) (now (mem .exit)) (now (macs .exit)) (now (cache .exit)) (now (dir .exit)) ⌝ }
+    ensures { λ x. ⌜ Leaves (busWrite n (now (line .entry))) (before (now (p .entry)) mem macs cache dir)
+        x (now (line .entry)) (after (now (p .exit)) mem macs cache dir) ⌝ }
 {
     let a = host::transfers::bus_write(*p, mem, macs, cache, dir, line, n);
     *p = a.processor;
@@ -51,7 +54,8 @@ pub extern "C" fn hq_bus_write_mac(
     mac: &[u8],
     n: u64,
 ) -> Report
-    ensures { λ x. ⌜ Leaves (busMac n (now (mac .entry))) (now (p .entry)) (now (mem .entry)) (now (macs .entry)) (now (cache .entry)) (now (dir .entry)) (now (p .exit)) x (now (mac .entry)) (now (mem .exit)) (now (macs .exit)) (now (cache .exit)) (now (dir .exit)) ⌝ }
+    ensures { λ x. ⌜ Leaves (busMac n (now (mac .entry))) (before (now (p .entry)) mem macs cache dir)
+        x (now (mac .entry)) (after (now (p .exit)) mem macs cache dir) ⌝ }
 {
     let a = host::transfers::bus_write_mac(*p, mem, macs, cache, dir, mac, n);
     *p = a.processor;

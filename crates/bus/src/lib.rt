@@ -4,11 +4,12 @@ use cache::whole;
 ghost use mathlib.Core.Path.{_≡_};
 ghost use mathlib.Core.Option.{some};
 ghost use mathlib.Core.List.{[]};
-ghost use Prim.Native.Nat.{_<_, _/_};
+ghost use Prim.Native.Nat.{_+_, _<_, _≤_, _/_};
 ghost use lib.ListN.{length};
+ghost use Rattle.lists.specs.Parts.{putAt};
 ghost use Rattle.model.specs.Requests.{busRead, busWrite, busMac};
 ghost use Rattle.cache.specs.Lent.{lent, countsIn, Fit};
-ghost use Rattle.bus.specs.Handles.{Handles};
+ghost use Rattle.bus.specs.Handles.{Handles, before, after};
 
 // Line n of memory goes to a buffer of 64 bytes.
 pub fn read(
@@ -23,13 +24,24 @@ pub fn read(
 ) -> Counts
     requires { ⌜ Fit (lent hi lo (now mem) (now macs) (now cache) (now dir)) ⌝ }
     requires { ⌜ (n < length (now mem) / 64) × (length (now line) ≡ 64) ⌝ }
-    ensures { λ r. ⌜ Handles (busRead n) (lent hi lo (now (mem .entry)) (now (macs .entry)) (now (cache .entry)) (now (dir .entry))) (some (now (line .exit))) (countsIn r) (lent hi lo (now (mem .exit)) (now (macs .exit)) (now (cache .exit)) (now (dir .exit))) ⌝ }
+    ensures { λ r. ⌜ Handles (busRead n) (before hi lo mem macs cache dir) (some (now (line .exit))) (countsIn r)
+        (after hi lo mem macs cache dir) ⌝ }
 {
     let k = whole::drop_line(hi, lo, mem, macs, cache, dir, n);
     let a = n * 64;
     let e = a + 64;
     bytes::copy(&mem[a..e], line);
     k
+}
+
+// A part goes to its place in a buffer.
+fn store(part: &[u8], whole: &mut [u8], a: usize)
+    requires { ⌜ a + length (now part) ≤ length (now whole) ⌝ }
+    ensures { λ _. ⌜ now (whole .exit)
+        ≡ putAt a (length (now (part .entry))) (now (part .entry)) (now (whole .entry)) ⌝ }
+{
+    let e = a + part.len();
+    bytes::copy(part, &mut whole[a..e]);
 }
 
 // A buffer of 64 bytes goes to line n of memory.
@@ -45,12 +57,11 @@ pub fn write(
 ) -> Counts
     requires { ⌜ Fit (lent hi lo (now mem) (now macs) (now cache) (now dir)) ⌝ }
     requires { ⌜ (n < length (now mem) / 64) × (length (now line) ≡ 64) ⌝ }
-    ensures { λ r. ⌜ Handles (busWrite n (now (line .entry))) (lent hi lo (now (mem .entry)) (now (macs .entry)) (now (cache .entry)) (now (dir .entry))) (some []) (countsIn r) (lent hi lo (now (mem .exit)) (now (macs .exit)) (now (cache .exit)) (now (dir .exit))) ⌝ }
+    ensures { λ r. ⌜ Handles (busWrite n (now (line .entry))) (before hi lo mem macs cache dir) (some []) (countsIn r)
+        (after hi lo mem macs cache dir) ⌝ }
 {
     let k = whole::drop_line(hi, lo, mem, macs, cache, dir, n);
-    let a = n * 64;
-    let e = a + 64;
-    bytes::copy(line, &mut mem[a..e]);
+    store(line, mem, n * 64);
     k
 }
 
@@ -67,11 +78,10 @@ pub fn write_mac(
 ) -> Counts
     requires { ⌜ Fit (lent hi lo (now mem) (now macs) (now cache) (now dir)) ⌝ }
     requires { ⌜ (n < length (now mem) / 64) × (length (now mac) ≡ 16) ⌝ }
-    ensures { λ r. ⌜ Handles (busMac n (now (mac .entry))) (lent hi lo (now (mem .entry)) (now (macs .entry)) (now (cache .entry)) (now (dir .entry))) (some []) (countsIn r) (lent hi lo (now (mem .exit)) (now (macs .exit)) (now (cache .exit)) (now (dir .exit))) ⌝ }
+    ensures { λ r. ⌜ Handles (busMac n (now (mac .entry))) (before hi lo mem macs cache dir) (some []) (countsIn r)
+        (after hi lo mem macs cache dir) ⌝ }
 {
     let k = whole::drop_line(hi, lo, mem, macs, cache, dir, n);
-    let a = n * 16;
-    let e = a + 16;
-    bytes::copy(mac, &mut macs[a..e]);
+    store(mac, macs, n * 16);
     k
 }

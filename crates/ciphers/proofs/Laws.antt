@@ -8,13 +8,14 @@ use Rattle.lists.specs.Words.{bigBytes}
 use Rattle.lists.proofs.ByteLaws.{bytes-append, bytes-zeros}
 use Rattle.lists.proofs.WordLaws.{bytes-bigBytes}
 use Rattle.model.specs.CipherLaws.{Sized, CipherLaws}
-use Rattle.aes.specs.Schedule.{keyExpansion}
-use Rattle.aes.specs.Cipher.{cipher}
-use Rattle.aes.proofs.RoundTrip.{cipher-length, cipher-block}
-use Rattle.aes.proofs.ChainTrip.{cbcEncrypt-length, cbcEncrypt-bytes, cbcDecrypt-length, cbcDecrypt-bytes, cbcDecrypt-cbcEncrypt}
+use Rattle.aes_standard.specs.Schedule.{keyExpansion}
+use Rattle.aes_standard.specs.Cipher.{cipher}
+use Rattle.aes_standard.proofs.RoundTrip.{cipher-length, cipher-block}
+use Rattle.aes_standard.proofs.ChainTrip.{cbcEncrypt-length, cbcEncrypt-bytes, cbcDecrypt-length, cbcDecrypt-bytes}
+use Rattle.aes_standard.proofs.ChainTrip.{cbcDecrypt-cbcEncrypt}
 use Rattle.cmac.specs.Cmac.{cmac}
 use Rattle.sealing.specs.Lines.{macOf, lineKey, codeMac, dataMac, startVector, enciphered, deciphered}
-use Rattle.sealing.proofs.RegisterLaws.{stream-length}
+use Rattle.sealing.proofs.StreamLaws.{stream-length}
 use Rattle.ciphers.specs.Cipher.{aesCipher}
 
 -- a MAC has sixteen bytes, whatever is signed
@@ -26,7 +27,8 @@ mac-length drk m = cipher-length (keyExpansion drk) _
 vector-bytes : (drk : List ℕ) (a : ℕ) → Bytes (startVector drk a)
 unfolding startVector
 vector-bytes drk a =
-    cipher-block (keyExpansion (lineKey drk)) (zeros 8 ++ bigBytes 8 a) (bytes-append (zeros 8) (bigBytes 8 a) (bytes-zeros 8) (bytes-bigBytes 8 a)) .bytes
+    cipher-block (keyExpansion (lineKey drk)) (zeros 8 ++ bigBytes 8 a)
+    (bytes-append (zeros 8) (bigBytes 8 a) (bytes-zeros 8) (bytes-bigBytes 8 a)) .bytes
 
 pub aesLaws : CipherLaws aesCipher
 unfolding aesCipher enciphered deciphered dataMac
@@ -37,7 +39,10 @@ aesLaws =
       dataMac-length = λ k a l h. mac-length k _;
       mac-length = mac-length;
       stream-length = λ k h e. stream-length k h;
-      encipher-bytes = λ k a l hk h. cbcEncrypt-bytes (keyExpansion (lineKey k)) (startVector k a) l (vector-bytes k a) (h .bytes);
-      decipher-bytes = λ k a l hk h. cbcDecrypt-bytes (keyExpansion (lineKey k)) (startVector k a) l (vector-bytes k a) (h .bytes);
-      decipher-encipher = λ k a l hk h. cbcDecrypt-cbcEncrypt (keyExpansion (lineKey k)) (startVector k a) l (vector-bytes k a) (h .bytes);
+      encipher-bytes = λ k a l hk h. cbcEncrypt-bytes (keyExpansion (lineKey k)) (startVector k a) l (vector-bytes k a)
+          (h .bytes);
+      decipher-bytes = λ k a l hk h. cbcDecrypt-bytes (keyExpansion (lineKey k)) (startVector k a) l (vector-bytes k a)
+          (h .bytes);
+      decipher-encipher = λ k a l hk h. cbcDecrypt-cbcEncrypt (keyExpansion (lineKey k)) (startVector k a) l
+          (vector-bytes k a) (h .bytes);
     }

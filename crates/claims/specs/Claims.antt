@@ -1,5 +1,6 @@
 -- What the customer quotes, on one page: the board of document 01 with AES-128, CBC and CMAC.
--- Two machines stand side by side, one with a cache and one without; `AlwaysSame` says that after each call they cannot be told apart.
+-- Two machines stand side by side, one with a cache and one without; `AlwaysSame` says that after each call they
+-- cannot be told apart.
 use Prim.Native.Nat.{ℕ, _*_, _/_, _≤_}
 use mathlib.Core.Path.{_≡_}
 use mathlib.Core.Bool.{true}
@@ -15,8 +16,8 @@ use Rattle.instructions.specs.Marked.{Marked}
 use Rattle.demand3.specs.Statement.{AlwaysSame, LentBytes}
 use Rattle.ciphers.specs.Cipher.{aesCipher}
 
--- Demand 3: from reset with an empty cache, whatever the memory, the MACs, the DRK and the SRH are, for every cache size from 1 to 64 slots and
--- every sequence of calls, a cache changes the counts and nothing else.
+-- Demand 3: from reset with an empty cache, whatever the memory, the MACs, the DRK and the SRH are, for every cache
+-- size from 1 to 64 slots and every sequence of calls, a cache changes the counts and nothing else.
 abbrev pub Demand3 : Type 0
 Demand3 =
     (drk mem macs : List ℕ) (before : Processor) (C : ℕ)
@@ -24,7 +25,10 @@ Demand3 =
     → (calls : List Call) → LentBytes calls
     → AlwaysSame documentBoard aesCipher calls
     (record { processor = reset documentBoard before; memory = record { key = drk; mem = mem; macs = macs } })
-    (record { processor = reset documentBoard before; memory = record { key = drk; mem = mem; macs = macs; cache = zeros (C * 64); dir = zeros C } })
+    (record {
+      processor = reset documentBoard before;
+      memory = record { key = drk; mem = mem; macs = macs; cache = zeros (C * 64); dir = zeros C };
+    })
 
 -- The marked cases P1 to P12, as one list.
 abbrev pub MarkedCases : Type 0

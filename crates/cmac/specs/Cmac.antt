@@ -1,14 +1,14 @@
 -- The MAC of a list of bytes of any length, under the words of a key schedule (SP 800-38B, section 6.2).
-use mathlib.Core.List.{List, [], _∷_, _++_}
+use mathlib.Core.List.{List, _∷_, _++_}
 use mathlib.Core.Path.{_≡_}
 use Prim.Native.Nat.{ℕ, _-_, _*_, _/_, _≤_}
 use lib.Dec.{eqb}
 use lib.ListN.{length, take, drop}
 use Rattle.lists.specs.If.{if}
 use Rattle.lists.specs.Bytes.{zeros}
-use Rattle.aes.specs.State.{plus}
-use Rattle.aes.specs.Cipher.{cipher}
-use Rattle.aes.specs.Chain.{lastOfChain}
+use Rattle.aes_standard.specs.State.{plus}
+use Rattle.aes_standard.specs.Cipher.{cipher}
+use Rattle.aes_standard.specs.Chain.{lastOfChain}
 use Rattle.cmac.specs.Subkeys.{subkey1, subkey2}
 
 -- How many bytes stand before the last block, which is empty only where there are none at all.

@@ -1,72 +1,37 @@
 // CMAC with AES-128 (SP 800-38B, RFC 4493): the MAC of a message of any length, as the caller lends it.
+use rounds::columns;
+use rounds::columns::Columns;
 ghost use mathlib.Core.Path.{_≡_};
-ghost use Prim.Native.Nat.{_+_, _*_, _/_, _%_, _≤_};
+ghost use Prim.Native.Nat.{_≤_};
 ghost use lib.ListN.{length};
-ghost use Rattle.field.specs.Field.{_⊕_};
-ghost use Rattle.aes.specs.State.{plus};
-ghost use Rattle.cmac.specs.Subkeys.{doubled, subkey1, subkey2};
+ghost use Rattle.aes_standard.specs.State.{plus};
+ghost use Rattle.cmac.specs.Subkeys.{Shifted, doubled, subkey1, subkey2};
 ghost use Rattle.cmac.specs.Cmac.{Before, cmac, lastBlock};
 
 // The sum of two blocks.
 fn sum(a: &[u8; 16], b: &[u8; 16]) -> [u8; 16]
     ensures { λ r. ⌜ r ≡ plus (now (a .entry)) (now (b .entry)) ⌝ }
 {
-    [
-        a[0] ^ b[0],
-        a[1] ^ b[1],
-        a[2] ^ b[2],
-        a[3] ^ b[3],
-        a[4] ^ b[4],
-        a[5] ^ b[5],
-        a[6] ^ b[6],
-        a[7] ^ b[7],
-        a[8] ^ b[8],
-        a[9] ^ b[9],
-        a[10] ^ b[10],
-        a[11] ^ b[11],
-        a[12] ^ b[12],
-        a[13] ^ b[13],
-        a[14] ^ b[14],
-        a[15] ^ b[15],
-    ]
+    columns::bytes_of(columns::plus(columns::columns_of(a), columns::columns_of(b)))
 }
 
-// A byte shifted to the left by one digit, with the highest digit of the byte behind it.
-fn shifted(a: u8, b: u8) -> u8
-    ensures { λ r. ⌜ r ≡ a % 128 * 2 + b / 128 ⌝ }
+// A word shifted to the left by one digit, with the highest digit of the word behind it.
+fn shifted(a: u32, b: u32) -> u32
+    ensures { λ r. ⌜ Shifted a b r ⌝ }
 {
-    a % 128 * 2 + b / 128
+    a % 2147483648 * 2 + b / 2147483648
 }
 
-// The last byte of a block shifted, with 87 added where the block's first digit was set.
-fn shifted_last(last: u8, first: u8) -> u8
-    ensures { λ r. ⌜ r ≡ last % 128 * 2 ⊕ first / 128 * 0x87 ⌝ }
-{
-    last % 128 * 2 ^ first / 128 * 0x87
-}
-
-// The next subkey: a block doubled.
+// The next subkey: a block shifted as one number, with 87 added where its first digit was set.
 fn double(b: &[u8; 16]) -> [u8; 16]
     ensures { λ r. ⌜ r ≡ doubled (now (b .entry)) ⌝ }
 {
-    [
-        shifted(b[0], b[1]),
-        shifted(b[1], b[2]),
-        shifted(b[2], b[3]),
-        shifted(b[3], b[4]),
-        shifted(b[4], b[5]),
-        shifted(b[5], b[6]),
-        shifted(b[6], b[7]),
-        shifted(b[7], b[8]),
-        shifted(b[8], b[9]),
-        shifted(b[9], b[10]),
-        shifted(b[10], b[11]),
-        shifted(b[11], b[12]),
-        shifted(b[12], b[13]),
-        shifted(b[13], b[14]),
-        shifted(b[14], b[15]),
-        shifted_last(b[15], b[0]),
-    ]
+    let x = columns::columns_of(b);
+    let a = shifted(x.a, x.b);
+    let b = shifted(x.b, x.c);
+    let c = shifted(x.c, x.d);
+    let d = shifted(x.d, 0) ^ x.a / 2147483648 % 2 * 0x87;
+    columns::bytes_of(Columns { a, b, c, d })
 }
 
 // The last block of a message: whole with K1 added, or padded with K2 added.
@@ -106,7 +71,7 @@ pub fn sign(w: &[u32; 44], m: &[u8]) -> [u8; 16]
     let zeros = [0u8; 16];
     let k1 = subkey1(w);
     let n = before_last(m.len());
-    let before = aes::chain::absorb(w, &zeros, &m[..n]);
+    let before = chain::absorb(w, &zeros, &m[..n]);
     let last = last_block(&k1, &m[n..]);
     aes::encipher(w, &sum(&before, &last))
 }

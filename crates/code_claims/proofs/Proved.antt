@@ -1,9 +1,8 @@
 -- Demand 3 at the code holds: each contract carries the theorem on the meaning over one call.
-use mathlib.Core.Path.{_≡_, refl, sym, ap, _∙_}
+use mathlib.Core.Path.{_≡_, sym, ap, _∙_}
 use mathlib.Core.List.{List, [], _∷_}
 use lib.ListN.{length-append}
 use Prim.Native.Nat.{ℕ}
-use Rattle.lists.specs.Bytes.{zeros}
 use Rattle.lists.specs.Words.{bigBytes}
 use Rattle.lists.proofs.ByteLaws.{bytes-append}
 use Rattle.lists.proofs.WordLaws.{length-bigBytes, bytes-bigBytes}
@@ -12,32 +11,32 @@ use Rattle.sealing.specs.Lines.{drkOf}
 use Rattle.model.specs.Uncached.{Uncached}
 use Rattle.model.specs.Cached.{Cached, asItStands}
 use Rattle.instructions.specs.Board.{documentBoard}
-use Rattle.instructions.specs.Record.{reset}
 use Rattle.instructions.specs.Calls.{Call, Machine, Result, uncachedSetup, called}
 use Rattle.ciphers.specs.Cipher.{aesCipher}
 use Rattle.ciphers.proofs.Laws.{aesLaws}
 use Rattle.demand3.specs.Statement as meaning
 use Rattle.demand3.specs.Statement.{writtenBack, withCache, withoutCache, SameOutside}
 use Rattle.demand3.proofs.Document.{demand3-from-reset}
-use Rattle.cache.specs.Lent.{countsIn}
-use Rattle.registers.specs.Map.{processorOf}
-use Rattle.host.specs.declared.answer.Report.{Report}
-use Rattle.host.specs.Outcome.{resultOf, Gives, Leaves, clearedOf}
-use Rattle.code_claims.specs.Claim.{Lent, machineIn, Made, Session, ended, andThen, beside, Same, AlwaysSame, none, next, fromReset, Demand3AtTheCode}
+use Rattle.machine.specs.Lent.{Lent, machineIn}
+use Rattle.host.specs.Outcome.{resultOf, Gives, Leaves}
+use Rattle.code_claims.specs.Claim.{Made, Session, ended, andThen, beside, Same, AlwaysSame, none, next}
+use Rattle.code_claims.specs.Claim.{Demand3AtTheCode}
 
 module _ (call : Call) (l : Lent) (made : Made call l) where
   -- the call of the meaning
   abbrev result : Result Cached
   result = withCache documentBoard aesCipher call (machineIn l)
 
-  gives : Gives result (made .report .answer) (made .report .steps) (countsIn (made .report .counts)) (made .buffer) (machineIn (made .after))
+  gives : Gives result (made .report) (made .buffer) (machineIn (made .after))
   unfolding Leaves resultOf withCache
   gives = made .promised
 
   -- what stands beside the code is what stands beside the meaning
-  same-beside : (u : Machine Uncached) → withoutCache documentBoard aesCipher call u result ≡ beside call u (made .after)
+  same-beside : (u : Machine Uncached) → withoutCache documentBoard aesCipher call u result
+      ≡ beside call u (made .after)
   unfolding withoutCache
-  same-beside u = ap (λ (m : Machine Cached). called documentBoard aesCipher (uncachedSetup aesCipher (asItStands (m .memory))) call u) (sym (gives .left))
+  same-beside u = ap (λ (m : Machine Cached). called documentBoard aesCipher
+      (uncachedSetup aesCipher (asItStands (m .memory))) call u) (sym (gives .left))
 
   -- one call
   carried : (u : Machine Uncached) → SameOutside documentBoard aesCipher (beside call u (made .after)) result
@@ -48,16 +47,19 @@ module _ (call : Call) (l : Lent) (made : Made call l) where
         steps = S .steps ∙ sym (gives .stepped);
         buffers = S .buffers ∙ sym (gives .later);
         processors = S .processors ∙ sym (ap (λ (m : Machine Cached). m .processor) (gives .left));
-        memories = S .memories ∙ sym (ap (λ (m : Machine Cached). writtenBack documentBoard aesCipher (m .memory)) (gives .left));
+        memories = S .memories ∙ sym (ap (λ (m : Machine Cached). writtenBack documentBoard aesCipher (m .memory))
+            (gives .left));
       }
 
 -- every session
-all-same : (calls : List Call) (l : Lent) (session : Session calls l) (u : Machine Uncached) → meaning.AlwaysSame documentBoard aesCipher calls u (machineIn l)
+all-same : (calls : List Call) (l : Lent) (session : Session calls l) (u : Machine Uncached)
+    → meaning.AlwaysSame documentBoard aesCipher calls u (machineIn l)
     → AlwaysSame calls l session u
 all-same [] l ended u S = none
 all-same (call ∷ calls) l (andThen made rest) u (meaning.next S R) =
     next (carried call l made u (rw (same-beside call l made u) at S))
-    (all-same calls (made .after) rest (beside call u (made .after) .machine) (rw (same-beside call l made u, ← gives call l made .left) at R))
+    (all-same calls (made .after) rest (beside call u (made .after) .machine)
+    (rw (same-beside call l made u, ← gives call l made .left) at R))
 
 -- the DRK of two words is one of 16 bytes
 drk-sized : (hi lo : ℕ) → Sized 16 (drkOf hi lo)
@@ -69,6 +71,9 @@ drk-sized hi lo =
     }
 
 pub a-cache-changes-the-counts-and-nothing-else : Demand3AtTheCode
-unfolding reset documentBoard asItStands zeros
-a-cache-changes-the-counts-and-nothing-else p mem macs C b z e lo hi calls bs session =
-    all-same calls _ session _ (demand3-from-reset aesCipher aesLaws _ mem macs (processorOf (p .r) (p .special)) C (drk-sized (p .special .drkhi) (p .special .drklo)) b z e lo hi calls bs)
+unfolding asItStands
+a-cache-changes-the-counts-and-nothing-else p behind mem macs C b z e lo hi calls bs session =
+    all-same calls _ session _
+    (rw (behind .cleared)
+    (demand3-from-reset aesCipher aesLaws _ mem macs (behind .was) C
+    (drk-sized (p .special .drkhi) (p .special .drklo)) b z e lo hi calls bs))

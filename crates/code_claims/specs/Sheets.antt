@@ -1,4 +1,5 @@
--- The two sheets obey the customer's rule: beside the cold run and beside the warm run stands the machine without a cache, and the registers, the fault, the steps
+-- The two sheets obey the customer's rule: beside the cold run and beside the warm run stands the machine without a
+-- cache, and the registers, the fault, the steps
 -- and both memories once written back are its own. What the two sheets differ in are the counts.
 use Prim.Native.Nat.{ℕ}
 use Rattle.model.specs.Uncached.{Uncached}
@@ -13,11 +14,15 @@ use Rattle.sheets.specs.Runs.{emptied, coldRun, again, warmRun}
 
 -- the cold run on the machine without a cache: from the same record, on the memory and MAC area that the power cut left
 unfoldable pub coldBeside : ℕ → Machine Cached → Result Uncached
-coldBeside n m = withoutCache documentBoard aesCipher (run n) (record { processor = m .processor; memory = asItStands (emptied m .memory) }) (coldRun n m)
+coldBeside n m = withoutCache documentBoard aesCipher (run n) (record {
+  processor = m .processor;
+  memory = asItStands (emptied m .memory);
+}) (coldRun n m)
 
 -- the warm run on the machine without a cache: the same start again, on what its own cold run left
 unfoldable pub warmBeside : ℕ → Machine Cached → Result Uncached
-warmBeside n m = withoutCache documentBoard aesCipher (run n) (again (m .processor) (coldBeside n m .machine)) (warmRun n m)
+warmBeside n m = withoutCache documentBoard aesCipher (run n) (again (m .processor) (coldBeside n m .machine))
+    (warmRun n m)
 
 -- both runs
 pub record ObeyTheRule (n : ℕ) (m : Machine Cached) : Type 0 where
@@ -26,4 +31,5 @@ pub record ObeyTheRule (n : ℕ) (m : Machine Cached) : Type 0 where
 
 -- whatever was lent, as far as it is accepted and made of bytes, and whatever n is
 abbrev pub SheetsObeyTheRule : Type 0
-SheetsObeyTheRule = (n : ℕ) (m : Machine Cached) → Acceptable documentBoard m → MadeOfBytes (m .memory) → ObeyTheRule n m
+SheetsObeyTheRule = (n : ℕ) (m : Machine Cached) → Acceptable documentBoard m → MadeOfBytes (m .memory)
+    → ObeyTheRule n m

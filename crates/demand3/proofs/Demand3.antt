@@ -1,4 +1,5 @@
--- Demand 3, proved: from machines that agree, under every sequence of calls, nothing tells them apart; and which machines agree.
+-- Demand 3, proved: from machines that agree, under every sequence of calls, nothing tells them apart; and which
+-- machines agree.
 use Prim.Native.Nat.{ℕ, _/_}
 use mathlib.Core.Path.{_≡_, refl}
 use mathlib.Core.Bool.{true}
@@ -13,7 +14,9 @@ use Rattle.agree.proofs.Everything.{all-agrees, all-empties, same-mem, same-mac
 use Rattle.instructions.specs.Board.{Board}
 use Rattle.instructions.specs.Calls.{Call, Machine, Result}
 use Rattle.sound.specs.BoardLaws.{BoardLaws}
-use Rattle.demand3.specs.Statement.{writtenBack, withCache, withoutCache, SameOutside, AlwaysSame, ended, next, LentBytes, no-more, bytes-then, Agreeing, Demand3, CallsKeepAgreement, CallsKeepAcceptable, TwoLines, StepBound, RunBound, CallBound}
+use Rattle.demand3.specs.Statement.{writtenBack, withCache, withoutCache, SameOutside, AlwaysSame, ended, next}
+use Rattle.demand3.specs.Statement.{LentBytes, no-more, bytes-then, Agreeing, Demand3, CallsKeepAgreement}
+use Rattle.demand3.specs.Statement.{CallsKeepAcceptable, TwoLines, StepBound, RunBound, CallBound}
 use Rattle.sound.proofs.Lent.{lent-good}
 use Rattle.sound.proofs.Kept.{calls-keep-acceptable}
 use Rattle.sound.proofs.Bounds.{two-lines, step-bound, run-bound, call-bound}
@@ -25,7 +28,8 @@ module _ (B : Board) (BL : BoardLaws B) (c : Cipher) (CL : CipherLaws c) (N C : 
   unfolding writtenBack asItStands
   one-memory u s A =
       let t = evictAll c (B .placement) s .state in
-      let D : Agree c (B .placement) (BL .placement) N C u t = all-agrees c CL (B .placement) (BL .placement) N C u s A in
+      let D : Agree c (B .placement) (BL .placement) N C u t =
+      all-agrees c CL (B .placement) (BL .placement) N C u s A in
       let E : AllEmpty (B .placement) (t .dir) = all-empties c CL (B .placement) (BL .placement) N C s in
       let m = same-mem c CL (B .placement) (BL .placement) N C u t D E in
       let a = same-macs c CL (B .placement) (BL .placement) N C u t D E in
@@ -42,12 +46,14 @@ module _ (B : Board) (BL : BoardLaws B) (c : Cipher) (CL : CipherLaws c) (N C : 
       }
 
   -- from any machines that agree
-  pub always-same : (calls : List Call) (u : Machine Uncached) (s : Machine Cached) → LentBytes calls → Agreeing B BL c N C u s → AlwaysSame B c calls u s
+  pub always-same : (calls : List Call) (u : Machine Uncached) (s : Machine Cached) → LentBytes calls
+      → Agreeing B BL c N C u s → AlwaysSame B c calls u s
   always-same [] u s no-more G = ended
   always-same (call ∷ calls) u s (bytes-then b bs) G =
       let R = called-alike B BL c CL N C slots call u s b G in
       next (outside (withoutCache B c call u (withCache B c call s)) (withCache B c call s) R)
-      (always-same calls (withoutCache B c call u (withCache B c call s) .machine) (withCache B c call s .machine) bs (R .machines))
+      (always-same calls (withoutCache B c call u (withCache B c call s) .machine) (withCache B c call s .machine) bs
+      (R .machines))
 
 -- Demand 3
 pub demand3 : Demand3
@@ -56,10 +62,12 @@ demand3 B BL c CL s Z r calls bs =
     let l = lent-good B BL s (Z .accepted) in
     let N = length (s .mem) / 64 in
     let C = length (s .dir) in
-    always-same B BL c CL N C (l .slots) calls (record { processor = r; memory = asItStands s }) (record { processor = r; memory = s }) bs
+    always-same B BL c CL N C (l .slots) calls (record { processor = r; memory = asItStands s })
+    (record { processor = r; memory = s }) bs
     (record {
       processors = refl;
-      memories = fresh-agrees c CL (B .placement) (BL .placement) N C s (record { key = Z .key; bytes = Z .bytes; good = l .good }) (Z .empty);
+      memories = fresh-agrees c CL (B .placement) (BL .placement) N C s
+          (record { key = Z .key; bytes = Z .bytes; good = l .good }) (Z .empty);
     })
 
 -- every call keeps the agreement

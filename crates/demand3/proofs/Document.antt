@@ -41,12 +41,28 @@ size-lines M z =
     omega (arith, leb-true M 65536 (b .1))
 
 -- nothing of such a memory with an empty cache is refused
-fresh-accepted : (s : Cached) (C : ℕ) → s .cache ≡ zeros (C * 64) → s .dir ≡ zeros C → sizeFine (length (s .mem)) ≡ true → length (s .macs) ≡ length (s .mem) / 4 → 1 ≤ C → C ≤ 64 → firstOf (cachedFlaws documentBoard s) ≡ 0
+fresh-accepted : (s : Cached) (C : ℕ) → s .cache ≡ zeros (C * 64) → s .dir ≡ zeros C
+    → sizeFine (length (s .mem)) ≡ true → length (s .macs) ≡ length (s .mem) / 4 → 1 ≤ C → C ≤ 64
+    → firstOf (cachedFlaws documentBoard s) ≡ 0
 unfolding documentBoard cachedFlaws memoryFlaws cacheFlaws
 fresh-accepted s C p q z e lo hi =
     let M = length (s .mem) in
-    let scan : allFine (M / 64) (length (zeros C)) 0 (zeros C) ≡ true = orderly-scan (M / 64) (zeros C) (zeros-orderly (M / 64) C lo (size-lines M z)) in
-    rw (p, q, z, e, eq-eqb (M / 4) (M / 4) refl, scan, length-zeros C, length-zeros (C * 64), le-leb 1 C lo, le-leb C 64 hi, eq-eqb (C * 64) (C * 64) refl)
+    let scan : allFine (M / 64) (length (zeros C)) 0 (zeros C) ≡ true =
+    orderly-scan (M / 64) (zeros C) (zeros-orderly (M / 64) C lo (size-lines M z)) in
+    rw (
+      p,
+      q,
+      z,
+      e,
+      eq-eqb (M / 4) (M / 4) refl,
+      scan,
+      length-zeros C,
+      length-zeros (C * 64),
+      le-leb 1 C lo,
+      le-leb C
+          64 hi,
+      eq-eqb (C * 64) (C * 64) refl,
+    )
 
 pub demand3-from-reset : Demand3FromReset
 unfolding asItStands

@@ -1,30 +1,29 @@
 -- Behind a reboot and behind a power cut one can start, whatever was lent.
-use Prim.Native.Nat.{ℕ, _/_}
-use mathlib.Core.Path.{_≡_, refl}
+use Prim.Native.Nat.{_/_}
+use mathlib.Core.Path.{_≡_}
 use lib.ListN.{length}
-use lib.Dec.{eqb}
 use Rattle.lists.proofs.ByteLaws.{bytes-none}
 use Rattle.model.specs.Cipher.{Cipher}
-use Rattle.model.specs.CipherLaws.{CipherLaws}
 use Rattle.model.specs.Cached.{Cached, evictAll, loseAll, cachedHandle, cached}
-use Rattle.keeps.specs.Good.{Good, MadeOfBytes}
 use Rattle.keeps.proofs.Bytes.{all-bytes}
 use Rattle.agree.proofs.Everything.{Proper, all-empties, cut-proper, cut-empties}
 use Rattle.instructions.specs.Board.{Board}
 use Rattle.instructions.specs.Refusals.{orElse}
-use Rattle.instructions.specs.Calls.{Call, reboot, powerCut, bufferOf, callFlaws, Machine, refusal, accepted, asked, changed, called, cachedSetup}
-use Rattle.sound.specs.BoardLaws.{BoardLaws}
+use Rattle.instructions.specs.Calls.{reboot, powerCut, bufferOf, callFlaws, Machine, refusal, accepted, asked}
+use Rattle.instructions.specs.Calls.{changed, called, cachedSetup}
 use Rattle.sound.specs.Acceptable.{Acceptable}
 use Rattle.sound.proofs.Lent.{lent-good}
 use Rattle.sound.proofs.Kept.{calls-keep-acceptable}
-use Rattle.demand3.specs.Statement.{withCache, Startable, RebootStarts, CutStarts}
+use Rattle.demand3.specs.Statement.{withCache, RebootStarts, CutStarts}
 
 -- neither call is refused on an acceptable machine, so that its memory is written back, or lost
-reboot-memory : (B : Board) (c : Cipher) (m : Machine Cached) → Acceptable B m → withCache B c reboot m .machine .memory ≡ evictAll c (B .placement) (m .memory) .state
+reboot-memory : (B : Board) (c : Cipher) (m : Machine Cached) → Acceptable B m
+    → withCache B c reboot m .machine .memory ≡ evictAll c (B .placement) (m .memory) .state
 unfolding withCache called refusal orElse callFlaws accepted asked cachedSetup cached cachedHandle
 reboot-memory B c m A = rw (A .memory, A .processor)
 
-cut-memory : (B : Board) (c : Cipher) (m : Machine Cached) → Acceptable B m → withCache B c powerCut m .machine .memory ≡ loseAll (B .placement) (m .memory)
+cut-memory : (B : Board) (c : Cipher) (m : Machine Cached) → Acceptable B m
+    → withCache B c powerCut m .machine .memory ≡ loseAll (B .placement) (m .memory)
 unfolding withCache called refusal orElse callFlaws accepted changed cachedSetup cached
 cut-memory B c m A = rw (A .memory, A .processor)
 

@@ -1,5 +1,6 @@
--- The theorems as the customer reads them; their proofs are elsewhere. Two machines stand side by side, one with a cache and one without.
--- What a reader must believe: the definitions of `instructions` (the machine) and of `model` (its two memories), and this page.
+-- The theorems as the customer reads them; their proofs are elsewhere. Two machines stand side by side, one with a
+-- cache and one without. What a reader must believe: the definitions of `instructions` (the machine) and of `model`
+-- (its two memories), and this page.
 use Prim.Native.Nat.{ℕ, _+_, _*_, _/_, _≤_}
 use mathlib.Core.Path.{_≡_}
 use mathlib.Core.Logic.{_≢_}
@@ -19,7 +20,8 @@ use Rattle.instructions.specs.Board.{Board, documentBoard}
 use Rattle.instructions.specs.Record.{Processor, reset}
 use Rattle.instructions.specs.Fields.{opcode}
 use Rattle.instructions.specs.Refusals.{sizeFine, cachedFlaws}
-use Rattle.instructions.specs.Calls.{Call, reboot, powerCut, bufferOf, Machine, Result, cachedSetup, uncachedSetup, step, runFrom, called}
+use Rattle.instructions.specs.Calls.{Call, reboot, powerCut, bufferOf, Machine, Result, cachedSetup, uncachedSetup}
+use Rattle.instructions.specs.Calls.{step, runFrom, called}
 use Rattle.sound.specs.BoardLaws.{BoardLaws}
 use Rattle.sound.specs.Acceptable.{Acceptable, fetched}
 
@@ -33,12 +35,13 @@ writtenBack B c s = asItStands (evictAll c (B .placement) s .state)
 unfoldable pub withCache : Board → Cipher → Call → Machine Cached → Result Cached
 withCache B c call s = called B c (cachedSetup B c) call s
 
--- the same call on the machine without a cache beside it; at a power cut it is given the memory and MAC area that the cut left of the other
+-- the same call on the machine without a cache beside it; at a power cut it is given the memory and MAC area that the
+-- cut left of the other
 unfoldable pub withoutCache : Board → Cipher → Call → Machine Uncached → Result Cached → Result Uncached
 withoutCache B c call u s = called B c (uncachedSetup c (asItStands (s .machine .memory))) call u
 
--- the two cannot be told apart: the answer, run's steps, the later bytes of the lent buffer, the whole record, and the DRK, memory and MAC
--- area once everything is written back
+-- the two cannot be told apart: the answer, run's steps, the later bytes of the lent buffer, the whole record, and
+-- the DRK, memory and MAC area once everything is written back
 pub record SameOutside (B : Board) (c : Cipher) (u : Result Uncached) (s : Result Cached) : Type 0 where
   pub answers : u .answer ≡ s .answer
   pub steps : u .steps ≡ s .steps
@@ -62,19 +65,22 @@ pub data LentBytes : List Call → Type 0 where
 
 -- ---- 1: demand 3
 
--- a memory to start from: nothing that refusals 101 to 104 name, memory made of bytes, a DRK of 16 bytes, and every slot empty. (A lent slot
--- with a tag is trusted and need not match memory: from arbitrary lent contents the two machines may differ, so the cache starts empty.)
+-- a memory to start from: nothing that refusals 101 to 104 name, memory made of bytes, a DRK of 16 bytes, and every
+-- slot empty. (A lent slot with a tag is trusted and need not match memory: from arbitrary lent contents the two
+-- machines may differ, so the cache starts empty.)
 pub record Startable (B : Board) (s : Cached) : Type 0 where
   pub accepted : firstOf (cachedFlaws B s) ≡ 0
   pub bytes : Bytes (s .mem)
   pub key : Sized 16 (s .key)
   pub empty : AllEmpty (B .placement) (s .dir)
 
--- Demand 3: on every lawful board, with every lawful cipher, from every such memory and every record, under every sequence of calls, a cache
--- changes the counts and nothing else. Nothing is asked of the program, the keys or the MACs.
+-- Demand 3: on every lawful board, with every lawful cipher, from every such memory and every record, under every
+-- sequence of calls, a cache changes the counts and nothing else. Nothing is asked of the program, the keys or the
+-- MACs.
 abbrev pub Demand3 : Type 1
 Demand3 =
-    (B : Board) → BoardLaws B → (c : Cipher) → CipherLaws c → (s : Cached) → Startable B s → (r : Processor) (calls : List Call) → LentBytes calls
+    (B : Board) → BoardLaws B → (c : Cipher) → CipherLaws c → (s : Cached) → Startable B s
+    → (r : Processor) (calls : List Call) → LentBytes calls
     → AlwaysSame B c calls (record { processor = r; memory = asItStands s }) (record { processor = r; memory = s })
 
 -- Demand 3 for the board of document 01, from reset with an empty cache: any M, C, memory, MAC area, DRK and SRH
@@ -85,24 +91,30 @@ Demand3FromReset =
     → (calls : List Call) → LentBytes calls
     → AlwaysSame documentBoard c calls
     (record { processor = reset documentBoard before; memory = record { key = drk; mem = mem; macs = macs } })
-    (record { processor = reset documentBoard before; memory = record { key = drk; mem = mem; macs = macs; cache = zeros (C * 64); dir = zeros C } })
+    (record {
+      processor = reset documentBoard before;
+      memory = record { key = drk; mem = mem; macs = macs; cache = zeros (C * 64); dir = zeros C };
+    })
 
 -- whatever was lent, as far as it is accepted and made of bytes: behind a reboot one can start
 abbrev pub RebootStarts : Type 1
 RebootStarts =
-    (B : Board) → BoardLaws B → (c : Cipher) → CipherLaws c → (m : Machine Cached) → Acceptable B m → MadeOfBytes (m .memory)
+    (B : Board) → BoardLaws B → (c : Cipher) → CipherLaws c → (m : Machine Cached) → Acceptable B m
+    → MadeOfBytes (m .memory)
     → Startable B (withCache B c reboot m .machine .memory)
 
 -- and so behind a power cut
 abbrev pub CutStarts : Type 1
 CutStarts =
-    (B : Board) → BoardLaws B → (c : Cipher) → CipherLaws c → (m : Machine Cached) → Acceptable B m → MadeOfBytes (m .memory)
+    (B : Board) → BoardLaws B → (c : Cipher) → CipherLaws c → (m : Machine Cached) → Acceptable B m
+    → MadeOfBytes (m .memory)
     → Startable B (withCache B c powerCut m .machine .memory)
 
 -- ---- 2: what is kept
 
 -- two machines that agree: the same record, and memories that agree line by line
-pub record Agreeing (B : Board) (BL : BoardLaws B) (c : Cipher) (N C : ℕ) (u : Machine Uncached) (s : Machine Cached) : Type 0 where
+pub record Agreeing (B : Board) (BL : BoardLaws B) (c : Cipher) (N C : ℕ) (u : Machine Uncached)
+    (s : Machine Cached) : Type 0 where
   pub processors : u .processor ≡ s .processor
   pub memories : Agree c (B .placement) (BL .placement) N C (u .memory) (s .memory)
 
@@ -116,14 +128,16 @@ CallsKeepAgreement =
 -- every call leaves an acceptable machine acceptable, whatever its slots hold
 abbrev pub CallsKeepAcceptable : Type 1
 CallsKeepAcceptable =
-    (B : Board) → BoardLaws B → (c : Cipher) → CipherLaws c → (call : Call) (m : Machine Cached) → Bytes (bufferOf call) → Acceptable B m
+    (B : Board) → BoardLaws B → (c : Cipher) → CipherLaws c → (call : Call) (m : Machine Cached)
+    → Bytes (bufferOf call) → Acceptable B m
     → Acceptable B (withCache B c call m .machine)
 
 -- ---- 3: bounds on the counts
 
 -- no instruction but drk.set (opcode 32) fills or writes more than two lines
 abbrev pub TwoLines : Type 0
-TwoLines = (B : Board) (c : Cipher) (m : Machine Cached) → opcode (fetched B c m) ≢ 32 → Within 2 2 (step B c (cachedSetup B c) m .log)
+TwoLines = (B : Board) (c : Cipher) (m : Machine Cached) → opcode (fetched B c m) ≢ 32
+    → Within 2 2 (step B c (cachedSetup B c) m .log)
 
 -- any instruction fills at most two lines and writes at most two more than the cache has slots
 abbrev pub StepBound : Type 1

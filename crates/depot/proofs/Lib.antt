@@ -1,2 +1,2 @@
 -- The laws of `depot`, file by file.
-pub mod Ways
+pub mod CallLaws

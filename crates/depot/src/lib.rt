@@ -1,6 +1,8 @@
-// The depot's calls: a code line is signed, a data line sealed or opened, in its buffer, under a given DRK (two words, high first) and address.
+// The depot's calls: a code line is signed, a data line sealed or opened, in its buffer, under a given DRK (two words,
+// high first) and address.
 //
-// Each answers 0 or the lowest refusal that applies, 106, 107 or 109 as document 01 numbers them; a refusal writes nothing.
+// Each answers 0 or the lowest refusal that applies, 106, 107 or 109 as document 01 numbers them; a refusal writes
+// nothing.
 ghost use mathlib.Core.Path.{_≡_};
 ghost use mathlib.Core.List.{[]};
 ghost use Rattle.sealing.specs.Lines.{drkOf};
@@ -25,7 +27,8 @@ pub fn sign(hi: u64, lo: u64, address: u64, line: &mut [u8]) -> u32
 
 // Seals a data line, and puts the MAC of its encrypted bytes into mac.
 pub fn seal(hi: u64, lo: u64, address: u64, line: &mut [u8], mac: &mut [u8]) -> u32
-    ensures { λ r. ⌜ gave r (now (line .exit)) (now (mac .exit)) ≡ depotSeal aesCipher (drkOf hi lo) address (now (line .entry)) (now (mac .entry)) ⌝ }
+    ensures { λ r. ⌜ gave r (now (line .exit)) (now (mac .exit))
+        ≡ depotSeal aesCipher (drkOf hi lo) address (now (line .entry)) (now (mac .entry)) ⌝ }
 {
     if address % 64 != 0 {
         return 106;
@@ -44,7 +47,8 @@ pub fn seal(hi: u64, lo: u64, address: u64, line: &mut [u8], mac: &mut [u8]) -> 
 
 // Opens a sealed data line whose MAC is right.
 pub fn open_line(hi: u64, lo: u64, address: u64, line: &mut [u8], mac: &[u8]) -> u32
-    ensures { λ r. ⌜ gave r (now (line .exit)) (now (mac .entry)) ≡ depotOpen aesCipher (drkOf hi lo) address (now (line .entry)) (now (mac .entry)) ⌝ }
+    ensures { λ r. ⌜ gave r (now (line .exit)) (now (mac .entry))
+        ≡ depotOpen aesCipher (drkOf hi lo) address (now (line .entry)) (now (mac .entry)) ⌝ }
 {
     if address % 64 != 0 {
         return 106;

@@ -3,5 +3,7 @@ pub mod Every
 pub mod Tables
 pub mod Xor
 pub mod Product
+pub mod Additive
+pub mod Inverses
 pub mod SBoxLaws
 pub mod MixingLaws

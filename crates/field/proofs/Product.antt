@@ -58,7 +58,8 @@ productBy-lt : (n a x : ℕ) → x < 256 → productBy n a x < 256
 unfolding productBy
 productBy-lt zero a x h = omega arith
 productBy-lt (suc n) a x h =
-    ⊕-lt 8 (a % 2 * x) (productBy n (a / 2) (xtimes x)) (digit-lt (a % 2) x (omega arith) h) (productBy-lt n (a / 2) (xtimes x) (xtimes-lt x))
+    ⊕-lt 8 (a % 2 * x) (productBy n (a / 2) (xtimes x)) (digit-lt (a % 2) x (omega arith) h)
+    (productBy-lt n (a / 2) (xtimes x) (xtimes-lt x))
 
 -- a product with a byte is a byte
 pub •-lt : (a x : ℕ) → x < 256 → a • x < 256

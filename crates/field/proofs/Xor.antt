@@ -46,7 +46,7 @@ pub ⊕-swap : (a b c d : ℕ) → (a ⊕ b) ⊕ (c ⊕ d) ≡ (a ⊕ c) ⊕ (b 
     ∙ ap (λ (x : ℕ). a ⊕ x) (sym (⊕-assoc b c d) ∙ ap (λ (x : ℕ). x ⊕ d) (⊕-comm b c) ∙ ⊕-assoc c b d)
     ∙ sym (⊕-assoc a c (b ⊕ d))
 
--- adding twice takes away again
+-- adding flipped-flipped takes away again
 pub ⊕-again : (a b : ℕ) → a ⊕ b ⊕ b ≡ a
 ⊕-again a b = ⊕-assoc a b b ∙ ap (λ (x : ℕ). a ⊕ x) (⊕-self b) ∙ ⊕-zero a
 

@@ -6,7 +6,8 @@ use Rattle.field.specs.Field.{_•_, subByte, invSubByte}
 unfoldable pub word : ℕ → ℕ → ℕ → ℕ → ℕ
 word a b c d = a * 16777216 + b * 65536 + c * 256 + d
 
--- The third row's share in a column: y times the matrix's third column, where m0 m1 m2 m3 is its first row and each row below is turned right by one.
+-- The third row's share in a column: y times the matrix's third column, where m0 m1 m2 m3 is its first row and each row
+-- below is turned right by one.
 -- (The third, since in MixColumns its last byte is y itself.)
 unfoldable pub share : ℕ → ℕ → ℕ → ℕ → ℕ → ℕ
 share m0 m1 m2 m3 y = word (m2 • y) (m1 • y) (m0 • y) (m3 • y)

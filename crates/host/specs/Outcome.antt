@@ -1,80 +1,53 @@
 -- What a call of the host gives: everything that the meaning's call gives on the machine that was lent.
 use Prim.Native.Nat.{ℕ}
 use mathlib.Core.Path.{_≡_}
-use mathlib.Core.Bool.{false}
-use mathlib.Core.List.{List}
-use Rattle.lists.specs.Bytes.{zeros}
+use mathlib.Core.List.{List, _++_}
 use Rattle.model.specs.Log.{Counts}
 use Rattle.model.specs.Cached.{Cached}
 use Rattle.instructions.specs.Board.{documentBoard}
+use Rattle.instructions.specs.Rules.{firstOf}
+use Rattle.instructions.specs.Refusals.{orElse, memoryFlaws, cacheFlaws, recordFlaws}
 use Rattle.instructions.specs.Calls.{Call, Machine, Result, cachedSetup, called, counts}
 use Rattle.ciphers.specs.Cipher.{aesCipher}
-use Rattle.cache.specs.Lent.{lent, countsIn}
-use Rattle.cache.specs.declared.slots.Counts as slots
+use Rattle.cache.specs.Lent.{countsIn}
 use Rattle.registers.specs.declared.record.Processor.{Processor}
 use Rattle.registers.specs.Map.{processorOf}
-use Rattle.host.specs.declared.answer.Answer.{Answer}
-use Rattle.host.specs.declared.answer.Report.{Report}
-
--- The machine of a record and four lent buffers; its DRK goes with the memory.
-abbrev pub machineOf : Processor → List ℕ → List ℕ → List ℕ → List ℕ → Machine Cached
-machineOf p mem macs cache dir =
-    record { processor = processorOf (p .r) (p .special); memory = lent (p .special .drkhi) (p .special .drklo) mem macs cache dir }
+use Rattle.machine.specs.declared.answer.Answer.{Answer}
+use Rattle.machine.specs.declared.answer.Report.{Report}
+use Rattle.machine.specs.Lent.{Lent, machineIn}
 
 -- A call on the board of document 01 with a cache.
 unfoldable pub resultOf : Call → Machine Cached → Result Cached
 resultOf call m = called documentBoard aesCipher (cachedSetup documentBoard aesCipher) call m
 
--- The answer, run's steps, the counts, the later bytes of the call's buffer and the machine after it are those of a result.
-pub record Gives (x : Result Cached) (answer steps : ℕ) (k : Counts) (buffer : List ℕ) (m : Machine Cached) : Type 0 where
-  pub answered : answer ≡ x .answer
-  pub stepped : steps ≡ x .steps
-  pub counted : k ≡ counts x
+-- The answer, run's steps, the counts, the later bytes of the call's buffer and the machine after it are those of a
+-- result.
+pub record Gives (x : Result Cached) (report : Report) (buffer : List ℕ) (m : Machine Cached) : Type 0 where
+  pub answered : report .answer ≡ x .answer
+  pub stepped : report .steps ≡ x .steps
+  pub counted : countsIn (report .counts) ≡ counts x
   pub later : buffer ≡ x .buffer
   pub left : m ≡ x .machine
 
--- A call on a record and four lent buffers leaves another record, a report, the later bytes of the call's own buffer and of the four: what the meaning's call gives.
-unfoldable pub Leaves : Call → Processor → List ℕ → List ℕ → List ℕ → List ℕ → Processor → Report → List ℕ → List ℕ → List ℕ → List ℕ → List ℕ → Type 0
-Leaves call p mem macs cache dir p′ x buffer mem′ macs′ cache′ dir′ =
-    Gives (resultOf call (machineOf p mem macs cache dir)) (x .answer) (x .steps) (countsIn (x .counts)) buffer (machineOf p′ mem′ macs′ cache′ dir′)
+-- A call on what was lent leaves a report, the later bytes of the call's own buffer, and another record and four
+-- buffers: what the meaning's
+-- call gives.
+unfoldable pub Leaves : Call → Lent → Report → List ℕ → Lent → Type 0
+Leaves call l report buffer l′ = Gives (resultOf call (machineIn l)) report buffer (machineIn l′)
 
--- The answer of a refusal: the record as it was lent, the number, no steps, no counts.
-abbrev pub refusedWith : Processor → ℕ → Answer
-refusedWith p n =
-    record { processor = p; report = record { answer = n; steps = 0; counts = record { filled = 0; written = 0; checked = 0; made = 0 } } }
+-- The report of a call that has no steps: its number, and what it counted.
+pub record Reports (n : ℕ) (k : Counts) (x : Report) : Type 0 where
+  pub answered : x .answer ≡ n
+  pub stepped : x .steps ≡ 0
+  pub counted : countsIn (x .counts) ≡ k
 
--- The answer of a call done, other than run: the record after it, 0, no steps, the counts.
-abbrev pub doneWith : Processor → slots.Counts → Answer
-doneWith p k = record { processor = p; report = record { answer = 0; steps = 0; counts = k } }
+-- The record after such a call, and its report.
+pub record Answers (p : Processor) (n : ℕ) (k : Counts) (a : Answer) : Type 0 where
+  pub record′ : a .processor ≡ p
+  pub report′ : Reports n k (a .report)
 
--- The record with everything zero but DRK and SRH.
-abbrev pub clearedOf : Processor → Processor
-clearedOf p =
-    let q = p .special in
-    record {
-      r = zeros 32;
-      special =
-          record {
-            pc = 0;
-            epc = 0;
-            cause = 0;
-            drkhi = q .drkhi;
-            drklo = q .drklo;
-            srh0 = q .srh0;
-            srh1 = q .srh1;
-            srh2 = q .srh2;
-            srh3 = q .srh3;
-            word0 = 0;
-            word1 = 0;
-            word2 = 0;
-            word3 = 0;
-            hash = zeros 16;
-            address = 0;
-            pid = 0;
-            savedpid = 0;
-            cid = 0;
-            savedcid = 0;
-            mode = 0;
-            lock = false;
-          };
-    }
+-- The lowest refusal of a record, of buffers of these lengths and a directory, and of the call itself.
+unfoldable pub lowest : Processor → ℕ → ℕ → ℕ → List ℕ → ℕ → ℕ
+lowest p mem macs cache dir own =
+    orElse (firstOf (memoryFlaws mem macs ++ cacheFlaws documentBoard mem cache dir))
+    (orElse (firstOf (recordFlaws (processorOf (p .r) (p .special)))) own)

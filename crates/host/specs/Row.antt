@@ -1,5 +1,4 @@
 -- A record of the listing's row, by the numbers of its four fields.
-use Prim.Native.Nat.{ℕ}
 use Rattle.lists.specs.If.{if}
 use Rattle.model.specs.Tags.{tagNumber}
 use Rattle.model.specs.Placement.{Entry}

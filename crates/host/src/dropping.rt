@@ -5,6 +5,7 @@ use cache::whole;
 use registers::record::Processor;
 ghost use mathlib.Core.List.{[]};
 ghost use Rattle.instructions.specs.Calls.{evictLine, writeBackAll};
+ghost use Rattle.machine.specs.Lent.{before, after};
 ghost use Rattle.host.specs.Outcome.{Leaves};
 
 // Line n is evicted where its slot holds it.
@@ -16,22 +17,15 @@ pub fn evict_line(
     dir: &mut [u32],
     n: u64,
 ) -> Answer
-    ensures { λ a. ⌜ Leaves (evictLine n) p (now (mem .entry)) (now (macs .entry)) (now (cache .entry)) (now (dir .entry)) (a .processor) (a .report) [] (now (mem .exit)) (now (macs .exit)) (now (cache .exit)) (now (dir .exit)) ⌝ }
+    ensures { λ a. ⌜ Leaves (evictLine n) (before p mem macs cache dir) (a .report) []
+        (after (a .processor) mem macs cache dir) ⌝ }
 {
-    let q = p.special;
     let own = entry::call::line(mem.len(), n);
-    let no = answer::refusal(
-        answer::zeroth(p),
-        q.mode,
-        mem.len(),
-        macs.len(),
-        cache.len(),
-        dir,
-        own,
-    );
+    let no = answer::refusal(p, mem.len(), macs.len(), cache.len(), dir, own);
     if no != 0 {
         return answer::refused(p, no);
     }
+    let q = p.special;
     let k = whole::drop_line(q.drkhi, q.drklo, mem, macs, cache, dir, n as usize);
     answer::done(p, k)
 }
@@ -44,21 +38,14 @@ pub fn write_back(
     cache: &mut [u8],
     dir: &mut [u32],
 ) -> Answer
-    ensures { λ a. ⌜ Leaves writeBackAll p (now (mem .entry)) (now (macs .entry)) (now (cache .entry)) (now (dir .entry)) (a .processor) (a .report) [] (now (mem .exit)) (now (macs .exit)) (now (cache .exit)) (now (dir .exit)) ⌝ }
+    ensures { λ a. ⌜ Leaves writeBackAll (before p mem macs cache dir) (a .report) []
+        (after (a .processor) mem macs cache dir) ⌝ }
 {
-    let q = p.special;
-    let no = answer::refusal(
-        answer::zeroth(p),
-        q.mode,
-        mem.len(),
-        macs.len(),
-        cache.len(),
-        dir,
-        0,
-    );
+    let no = answer::refusal(p, mem.len(), macs.len(), cache.len(), dir, 0);
     if no != 0 {
         return answer::refused(p, no);
     }
+    let q = p.special;
     let k = whole::evict_all(q.drkhi, q.drklo, mem, macs, cache, dir);
     answer::done(p, k)
 }

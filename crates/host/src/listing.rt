@@ -8,7 +8,7 @@ ghost use Rattle.directory.specs.Numbers.{entryOf};
 ghost use Rattle.directory.specs.Direct.{direct};
 ghost use Rattle.instructions.specs.Board.{documentBoard};
 ghost use Rattle.instructions.specs.Listing.{listingRefusal};
-ghost use Rattle.host.specs.Outcome.{machineOf};
+ghost use Rattle.machine.specs.Lent.{machineIn, before};
 ghost use Rattle.host.specs.Row.{rowOf};
 
 // A record of the row: used (1) or empty (0), line, tag, dirty (1) or clean (0).
@@ -22,20 +22,10 @@ pub struct LineRecord {
 
 // The refusal of a listing into a row of so many records, and 0 where there is none.
 pub fn refusal(p: Processor, mem: &[u8], macs: &[u8], cache: &[u8], dir: &[u32], rows: usize) -> u32
-    ensures { λ r. ⌜ r ≡ listingRefusal documentBoard (machineOf p (now (mem .entry)) (now (macs .entry))
-        (now (cache .entry)) (now (dir .entry))) rows ⌝ }
+    ensures { λ r. ⌜ r ≡ listingRefusal documentBoard (machineIn (before p mem macs cache dir)) rows ⌝ }
 {
-    let q = p.special;
     let own = entry::call::row(rows, dir.len());
-    answer::refusal(
-        answer::zeroth(p),
-        q.mode,
-        mem.len(),
-        macs.len(),
-        cache.len(),
-        dir,
-        own,
-    )
+    answer::refusal(p, mem.len(), macs.len(), cache.len(), dir, own)
 }
 
 // 1 where the test holds, 0 where it does not.

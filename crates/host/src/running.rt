@@ -1,12 +1,12 @@
 // Run and interrupt.
 use crate::answer;
 use crate::answer::Answer;
-use crate::answer::Report;
 use cache::slots;
 use registers::record::Processor;
 use registers::suspend;
 ghost use mathlib.Core.List.{[]};
 ghost use Rattle.instructions.specs.Calls.{run, interrupt};
+ghost use Rattle.machine.specs.Lent.{before, after};
 ghost use Rattle.host.specs.Outcome.{Leaves};
 
 // At most n instructions, up to the first that faults.
@@ -18,33 +18,15 @@ pub fn run(
     dir: &mut [u32],
     n: u64,
 ) -> Answer
-    ensures { λ a. ⌜ Leaves (run n) p (now (mem .entry)) (now (macs .entry)) (now (cache .entry)) (now (dir .entry)) (a .processor) (a .report) [] (now (mem .exit)) (now (macs .exit)) (now (cache .exit)) (now (dir .exit)) ⌝ }
+    ensures { λ a. ⌜ Leaves (run n) (before p mem macs cache dir) (a .report) []
+        (after (a .processor) mem macs cache dir) ⌝ }
 {
-    let q = p.special;
     let own = entry::call::steps(n);
-    let no = answer::refusal(
-        answer::zeroth(p),
-        q.mode,
-        mem.len(),
-        macs.len(),
-        cache.len(),
-        dir,
-        own,
-    );
+    let no = answer::refusal(p, mem.len(), macs.len(), cache.len(), dir, own);
     if no != 0 {
         return answer::refused(p, no);
     }
-    let x = machine::run::run(p, mem, macs, cache, dir, n);
-    let next = x.processor;
-    let k = x.counts;
-    Answer {
-        processor: next,
-        report: Report {
-            answer: x.answer,
-            steps: x.steps,
-            counts: k,
-        },
-    }
+    machine::run::run(p, mem, macs, cache, dir, n)
 }
 
 // An interrupt: an active thread is suspended, and the machine goes on at its handler.
@@ -55,21 +37,14 @@ pub fn interrupt(
     cache: &mut [u8],
     dir: &mut [u32],
 ) -> Answer
-    ensures { λ a. ⌜ Leaves interrupt p (now (mem .entry)) (now (macs .entry)) (now (cache .entry)) (now (dir .entry)) (a .processor) (a .report) [] (now (mem .exit)) (now (macs .exit)) (now (cache .exit)) (now (dir .exit)) ⌝ }
+    ensures { λ a. ⌜ Leaves interrupt (before p mem macs cache dir) (a .report) []
+        (after (a .processor) mem macs cache dir) ⌝ }
 {
-    let q = p.special;
-    let no = answer::refusal(
-        answer::zeroth(p),
-        q.mode,
-        mem.len(),
-        macs.len(),
-        cache.len(),
-        dir,
-        0,
-    );
+    let no = answer::refusal(p, mem.len(), macs.len(), cache.len(), dir, 0);
     if no != 0 {
         return answer::refused(p, no);
     }
+    let q = p.special;
     let mut r = p.r;
     let s = suspend::enter(&mut r, q, 32);
     answer::done(Processor { r, special: s }, slots::none())

@@ -3,6 +3,7 @@ use crate::answer;
 use crate::answer::Answer;
 use registers::record::Processor;
 ghost use Rattle.instructions.specs.Calls.{busRead, busWrite, busMac};
+ghost use Rattle.machine.specs.Lent.{before, after};
 ghost use Rattle.host.specs.Outcome.{Leaves};
 
 // Line n of memory goes to a buffer of 64 bytes.
@@ -15,22 +16,15 @@ pub fn bus_read(
     line: &mut [u8],
     n: u64,
 ) -> Answer
-    ensures { λ a. ⌜ Leaves (busRead n (now (line .entry))) p (now (mem .entry)) (now (macs .entry)) (now (cache .entry)) (now (dir .entry)) (a .processor) (a .report) (now (line .exit)) (now (mem .exit)) (now (macs .exit)) (now (cache .exit)) (now (dir .exit)) ⌝ }
+    ensures { λ a. ⌜ Leaves (busRead n (now (line .entry))) (before p mem macs cache dir)
+        (a .report) (now (line .exit)) (after (a .processor) mem macs cache dir) ⌝ }
 {
-    let q = p.special;
     let own = entry::call::transfer(mem.len(), n, line.len(), 64);
-    let no = answer::refusal(
-        answer::zeroth(p),
-        q.mode,
-        mem.len(),
-        macs.len(),
-        cache.len(),
-        dir,
-        own,
-    );
+    let no = answer::refusal(p, mem.len(), macs.len(), cache.len(), dir, own);
     if no != 0 {
         return answer::refused(p, no);
     }
+    let q = p.special;
     let k = bus::read(q.drkhi, q.drklo, mem, macs, cache, dir, n as usize, line);
     answer::done(p, k)
 }
@@ -45,22 +39,15 @@ pub fn bus_write(
     line: &[u8],
     n: u64,
 ) -> Answer
-    ensures { λ a. ⌜ Leaves (busWrite n (now (line .entry))) p (now (mem .entry)) (now (macs .entry)) (now (cache .entry)) (now (dir .entry)) (a .processor) (a .report) (now (line .entry)) (now (mem .exit)) (now (macs .exit)) (now (cache .exit)) (now (dir .exit)) ⌝ }
+    ensures { λ a. ⌜ Leaves (busWrite n (now (line .entry))) (before p mem macs cache dir)
+        (a .report) (now (line .entry)) (after (a .processor) mem macs cache dir) ⌝ }
 {
-    let q = p.special;
     let own = entry::call::transfer(mem.len(), n, line.len(), 64);
-    let no = answer::refusal(
-        answer::zeroth(p),
-        q.mode,
-        mem.len(),
-        macs.len(),
-        cache.len(),
-        dir,
-        own,
-    );
+    let no = answer::refusal(p, mem.len(), macs.len(), cache.len(), dir, own);
     if no != 0 {
         return answer::refused(p, no);
     }
+    let q = p.special;
     let k = bus::write(q.drkhi, q.drklo, mem, macs, cache, dir, n as usize, line);
     answer::done(p, k)
 }
@@ -75,22 +62,15 @@ pub fn bus_write_mac(
     mac: &[u8],
     n: u64,
 ) -> Answer
-    ensures { λ a. ⌜ Leaves (busMac n (now (mac .entry))) p (now (mem .entry)) (now (macs .entry)) (now (cache .entry)) (now (dir .entry)) (a .processor) (a .report) (now (mac .entry)) (now (mem .exit)) (now (macs .exit)) (now (cache .exit)) (now (dir .exit)) ⌝ }
+    ensures { λ a. ⌜ Leaves (busMac n (now (mac .entry))) (before p mem macs cache dir)
+        (a .report) (now (mac .entry)) (after (a .processor) mem macs cache dir) ⌝ }
 {
-    let q = p.special;
     let own = entry::call::transfer(mem.len(), n, mac.len(), 16);
-    let no = answer::refusal(
-        answer::zeroth(p),
-        q.mode,
-        mem.len(),
-        macs.len(),
-        cache.len(),
-        dir,
-        own,
-    );
+    let no = answer::refusal(p, mem.len(), macs.len(), cache.len(), dir, own);
     if no != 0 {
         return answer::refused(p, no);
     }
+    let q = p.special;
     let k = bus::write_mac(q.drkhi, q.drklo, mem, macs, cache, dir, n as usize, mac);
     answer::done(p, k)
 }

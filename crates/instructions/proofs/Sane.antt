@@ -15,24 +15,27 @@ use Rattle.lists.proofs.ByteLaws.{getD-zeros}
 use Rattle.model.specs.Cipher.{Cipher}
 use Rattle.instructions.specs.Rules.{firstOf}
 use Rattle.instructions.specs.Board.{Board}
-use Rattle.instructions.specs.Record.{Processor, reg, withReg, withThread, active, reset, Sane}
+use Rattle.instructions.specs.Record.{Processor, reg, withReg, active, reset, Sane}
 use Rattle.instructions.specs.Fields.{opcode, fieldA}
-use Rattle.instructions.specs.Operations.{hasValue, value, nextMode, executed}
+use Rattle.instructions.specs.Operations.{hasValue, value, modes, nextMode, executed}
 use Rattle.instructions.specs.Suspend.{hashOf, hidden, suspended, entered, resumes, restored, returned}
 use Rattle.instructions.specs.Faults.{lateFault}
 use Rattle.instructions.specs.Wishes.{Got}
 use Rattle.instructions.specs.Step.{knownFault, finished}
 use Rattle.instructions.specs.Refusals.{recordFlaws}
+use Rattle.instructions.proofs.RuleLaws.{if-each, pick-each}
 
 -- refusal 105 lets exactly these records pass
 pub flaws-sane : (r : Processor) → firstOf (recordFlaws r) ≡ 0 → Sane r
 unfolding recordFlaws
 flaws-sane r z = go (not (eqb (reg r 0) 0)) (ltb 2 (r .cem .mode)) refl refl z
   where
-    go : (a b : Bool) → not (eqb (reg r 0) 0) ≡ a → ltb 2 (r .cem .mode) ≡ b → _≡_ {A = ℕ} (if (a || b) 105 0) 0 → Sane r
+    go : (a b : Bool) → not (eqb (reg r 0) 0) ≡ a → ltb 2 (r .cem .mode) ≡ b → _≡_ {A = ℕ} (if (a || b) 105 0) 0
+        → Sane r
     go true b p q e = absurd (omega arith)
     go false true p q e = absurd (omega arith)
-    go false false p q e = record { zeroth = eqb-true (reg r 0) 0 (not-false (eqb (reg r 0) 0) p); mode = ltb-false 2 (r .cem .mode) q }
+    go false false p q e =
+        record { zeroth = eqb-true (reg r 0) 0 (not-false (eqb (reg r 0) 0) p); mode = ltb-false 2 (r .cem .mode) q }
 
 pub sane-flaws : (r : Processor) → Sane r → firstOf (recordFlaws r) ≡ 0
 unfolding recordFlaws
@@ -50,38 +53,45 @@ unfolding hidden xoredBehind
 hidden-zeroth B c key hash [] = refl
 hidden-zeroth B c key hash (x ∷ l) = refl
 
--- a choice between two numbers that are zero, or at most 2
-chosen : (P : ℕ → Type 0) (t : Bool) (a b : ℕ) → P a → P b → P (if t a b)
-chosen P true a b p q = p
-chosen P false a b p q = q
+-- registers of which R0 is zero, and a mode that is at most 2
+abbrev Zeroth : List ℕ → Type 0
+Zeroth regs = getD regs 0 0 ≡ 0
 
-chosen-zeroth : (t : Bool) (a b : List ℕ) → getD a 0 0 ≡ 0 → getD b 0 0 ≡ 0 → getD (if t a b) 0 0 ≡ 0
-chosen-zeroth true a b p q = p
-chosen-zeroth false a b p q = q
+abbrev Low : ℕ → Type 0
+Low mode = mode ≤ 2
 
 module _ (B : Board) (c : Cipher) (key : List ℕ) (r : Processor) (S : Sane r) where
+  abbrev zeroth : getD (r .regs) 0 0 ≡ 0
+  zeroth = unfold reg in S .zeroth
+
+  hidden-kept : (hash : List ℕ) → Zeroth (hidden B c key hash (r .regs))
+  hidden-kept hash = hidden-zeroth B c key hash (r .regs) ∙ zeroth
+
   sane-executed : (w loaded : ℕ) → Sane (executed B c key r w loaded)
   unfolding executed reg nextMode
   sane-executed w loaded =
+      let written = with-zeroth (fieldA w) (value B r w loaded) (r .regs) ∙ zeroth in
       record {
-        zeroth = chosen-zeroth (hasValue w) (withReg (fieldA w) (value B r w loaded) (r .regs)) (r .regs) (with-zeroth (fieldA w) (value B r w loaded) (r .regs) ∙ S .zeroth) (S .zeroth);
-        mode = chosen (λ (m : ℕ). m ≤ 2) (eqb (opcode w) 39) 1 (if (eqb (opcode w) 40) 0 (r .cem .mode)) (omega arith) (chosen (λ (m : ℕ). m ≤ 2) (eqb (opcode w) 40) 0 (r .cem .mode) (omega arith) (S .mode));
+        zeroth =
+            if-each Zeroth (hasValue w) (withReg (fieldA w) (value B r w loaded) (r .regs)) (r .regs) written zeroth;
+        mode = pick-each Low (opcode w) modes (r .cem .mode) (λ e. omega arith, (λ e. omega arith, tt {0})) (S .mode);
       }
 
   pub sane-entered : (n : ℕ) → Sane (entered B c key n r)
-  unfolding entered suspended withThread reg
+  unfolding entered suspended reg
   sane-entered n =
+      let hash = hashOf B c key (r .regs) in
       record {
-        zeroth = chosen-zeroth (active r) (hidden B c key (hashOf B c key (r .regs)) (r .regs)) (r .regs) (hidden-zeroth B c key (hashOf B c key (r .regs)) (r .regs) ∙ S .zeroth) (S .zeroth);
-        mode = chosen (λ (m : ℕ). m ≤ 2) (active r) 2 (r .cem .mode) (omega arith) (S .mode);
+        zeroth = if-each Zeroth (active r) (hidden B c key hash (r .regs)) (r .regs) (hidden-kept hash) zeroth;
+        mode = if-each Low (active r) 2 (r .cem .mode) (omega arith) (S .mode);
       }
 
   sane-returned : Sane (returned B c key r)
-  unfolding returned restored withThread reg
+  unfolding returned restored reg
   sane-returned =
       record {
-        zeroth = chosen-zeroth (resumes r) (restored B c key r) (r .regs) (hidden-zeroth B c key (r .cem .saved .hash) (r .regs) ∙ S .zeroth) (S .zeroth);
-        mode = chosen (λ (m : ℕ). m ≤ 2) (resumes r) 1 (r .cem .mode) (omega arith) (S .mode);
+        zeroth = if-each Zeroth (resumes r) (restored B c key r) (r .regs) (hidden-kept (r .cem .saved .hash)) zeroth;
+        mode = if-each Low (resumes r) 1 (r .cem .mode) (omega arith) (S .mode);
       }
 
   pub sane-finished : (M : ℕ) (got data′ : Got) → Sane (finished B c key M r got data′ .processor)

@@ -1,4 +1,5 @@
--- What one board has and another may not: its word width, its table of opcodes, where its cache puts lines, and which caches it takes.
+-- What one board has and another may not: its word width, its table of opcodes, where its cache puts lines, and which
+-- caches it takes.
 use Prim.Native.Nat.{ℕ, _^_}
 use mathlib.Core.Bool.{Bool, _&&_}
 use mathlib.Core.List.{List, [], _∷_}

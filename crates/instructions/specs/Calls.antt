@@ -1,4 +1,5 @@
--- The calls of the host: each on any memory, so that the machine with a cache and the machine without one cannot differ in a call by mistake.
+-- The calls of the host: each on any memory, so that the machine with a cache and the machine without one cannot
+-- differ in a call by mistake.
 use Prim.Native.Nat.{ℕ, zero, suc, _+_}
 use mathlib.Core.Bool.{Bool}
 use mathlib.Core.List.{List, [], _++_}
@@ -15,7 +16,8 @@ use Rattle.instructions.specs.Board.{Board}
 use Rattle.instructions.specs.Record.{Processor, reset}
 use Rattle.instructions.specs.Suspend.{entered}
 use Rattle.instructions.specs.Step.{Stepped, instruction}
-use Rattle.instructions.specs.Refusals.{orElse, cachedFlaws, uncachedFlaws, recordFlaws, lineFlaws, bufferFlaws, runFlaws}
+use Rattle.instructions.specs.Refusals.{orElse, cachedFlaws, uncachedFlaws, recordFlaws, lineFlaws, bufferFlaws}
+use Rattle.instructions.specs.Refusals.{runFlaws}
 
 -- the machine calls but the listing, with the line, the n and the buffer that each is lent
 pub data Call : Type 0 where
@@ -38,7 +40,8 @@ pub record Machine (S : Type 0) : Type 0 where
   pub processor : Processor
   pub memory : S
 
--- what a call gives: the answer, the steps of run, the later bytes of its buffer, the machine, and the notes of which the counts are the sums
+-- what a call gives: the answer, the steps of run, the later bytes of its buffer, the machine, and the notes of which
+-- the counts are the sums
 pub record Result (S : Type 0) : Type 0 where
   pub answer : ℕ
   pub steps : ℕ
@@ -105,7 +108,13 @@ changed r s = record { answer = 0; steps = 0; buffer = []; machine = record { pr
 unfoldable pub asked : {S : Type 0} → Setup S → Request → Processor → (Reply → List ℕ) → S → Result S
 asked H q r buffer s =
     let h = H .memory .handle q s in
-    record { answer = 0; steps = 0; buffer = buffer (h .reply); machine = record { processor = r; memory = h .state }; log = h .log }
+    record {
+      answer = 0;
+      steps = 0;
+      buffer = buffer (h .reply);
+      machine = record { processor = r; memory = h .state };
+      log = h .log;
+    }
 
 -- the bytes of a reply, or the buffer as it was lent
 unfoldable pub replied : List ℕ → Reply → List ℕ
@@ -115,9 +124,12 @@ replied x (some line) = line
 module _ {S : Type 0} (B : Board) (c : Cipher) (H : Setup S) where
   -- one instruction on the machine
   unfoldable pub step : Machine S → Ran Stepped S
-  step m = perform (H .memory) (instruction B c (H .memory .key (m .memory)) (H .memory .size (m .memory)) (m .processor)) (m .memory)
+  step m =
+      let s = m .memory in
+      perform (H .memory) (instruction B c (H .memory .key s) (H .memory .size s) (m .processor)) s
 
-  -- run: at most so many instructions more, after i were done; it stops behind the first step that faults, that step counted
+  -- run: at most so many instructions more, after i were done; it stops behind the first step that faults, that step
+  -- counted
   unfoldable pub runFrom : ℕ → ℕ → Machine S → Result S
   runFrom zero i m = record { answer = 0; steps = i; buffer = []; machine = m; log = [] }
   runFrom (suc k) i m =

@@ -24,10 +24,12 @@ pub record Listed : Type 0 where
 -- the refusal of a listing into a row of so many records: 101 to 105 as for every machine call, then 110
 unfoldable pub listingRefusal : Board → Machine Cached → ℕ → ℕ
 listingRefusal B m rows =
-    orElse (firstOf (cachedFlaws B (m .memory))) (orElse (firstOf (recordFlaws (m .processor))) (firstOf (rowFlaws rows (m .memory .dir))))
+    orElse (firstOf (cachedFlaws B (m .memory)))
+    (orElse (firstOf (recordFlaws (m .processor))) (firstOf (rowFlaws rows (m .memory .dir))))
 
 -- the row gets what each place holds; a refused row keeps its records
 unfoldable pub listing : Board → Machine Cached → List Entry → Listed
 listing B m row =
     let n = listingRefusal B m (length row) in
-    record { answer = n; row = if (eqb n 0) (entriesFrom (B .placement) (m .memory .dir) (length (m .memory .dir)) 0) row }
+    let dir = m .memory .dir in
+    record { answer = n; row = if (eqb n 0) (entriesFrom (B .placement) dir (length dir) 0) row }

@@ -12,7 +12,7 @@ use Rattle.model.specs.Cipher.{Cipher}
 use Rattle.model.specs.Lines.{lineAt, macAt, passes}
 use Rattle.model.specs.Uncached.{Uncached}
 use Rattle.instructions.specs.Board.{documentBoard}
-use Rattle.instructions.specs.Record.{Processor, reg}
+use Rattle.instructions.specs.Record.{Processor, reg, withRegs, withPc, withMode, withLock, blank}
 use Rattle.instructions.specs.Fields.{opcode, fieldA, fieldB, fieldC}
 use Rattle.instructions.specs.Step.{Stepped}
 use Rattle.instructions.specs.Calls.{uncachedSetup, step}
@@ -24,15 +24,7 @@ encoded op a b c low = op * 67108864 + a * 2097152 + b * 65536 + c * 2048 + low
 -- a record with a mode, a lock, a pc, and words in R1 and R2; all else zero
 unfoldable pub thread : ℕ → Bool → ℕ → ℕ → ℕ → Processor
 thread mode lock pc x y =
-    record {
-      regs = 0 ∷ x ∷ y ∷ zeros 29;
-      pc = pc;
-      epc = 0;
-      cause = 0;
-      pid = 0;
-      cid = 0;
-      cem = record { mode = mode; lock = lock; srh = zeros 4; buffer = zeros 4; saved = record { hash = zeros 16; address = 0; pid = 0; cid = 0 } };
-    }
+    withRegs (0 ∷ x ∷ y ∷ zeros 29) (withPc pc (withMode mode (withLock lock (blank documentBoard))))
 
 -- one step of a record on a memory
 unfoldable pub stepOn : Cipher → Processor → Uncached → Stepped
@@ -69,9 +61,12 @@ pub record Marked (c : Cipher) : Type 0 where
   -- load at 252: 9, not 10
   pub p10 : stepOf c 0 false 252 0 (encoded 10 3 1 0 0) .fault ≡ 9
   -- load at 256: 10; at 248 served
-  pub p11 : (stepOf c 0 false 256 0 (encoded 10 3 1 0 0) .fault ≡ 10) × (stepOf c 0 false 248 0 (encoded 10 3 1 0 0) .fault ≡ 0)
+  pub p11 :
+      (stepOf c 0 false 256 0 (encoded 10 3 1 0 0) .fault ≡ 10)
+      × (stepOf c 0 false 248 0 (encoded 10 3 1 0 0) .fault ≡ 0)
   -- add at pc 44, in active mode with its line's MAC right: next pc 64; in normal mode 48
   pub p12 :
       (u : Uncached) → length (u .mem) ≡ 256 → little (partAt 44 4 (lineAt 0 (u .mem))) ≡ encoded 1 3 1 2 0
-      → (passes c secureInstruction (u .key) 0 (lineAt 0 (u .mem)) (macAt 0 (u .macs)) ≡ true → stepOn c (thread 1 false 44 0 0) u .processor .pc ≡ 64)
+      → (passes c secureInstruction (u .key) 0 (lineAt 0 (u .mem)) (macAt 0 (u .macs)) ≡ true
+      → stepOn c (thread 1 false 44 0 0) u .processor .pc ≡ 64)
       × (stepOn c (thread 0 false 44 0 0) u .processor .pc ≡ 48)

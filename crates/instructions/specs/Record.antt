@@ -16,7 +16,8 @@ pub record Saved : Type 0 where
   pub pid : ℕ
   pub cid : ℕ
 
--- the concealed thread's registers: CEM_Mode (0 normal, 1 active, 2 suspended), DRK_Lock, SRH and CEM_Buffer (words, word 0 first)
+-- the concealed thread's registers: CEM_Mode (0 normal, 1 active, 2 suspended), DRK_Lock, SRH and CEM_Buffer (words,
+-- word 0 first)
 pub record Cem : Type 0 where
   pub mode : ℕ
   pub lock : Bool
@@ -42,27 +43,58 @@ reg r n = getD (r .regs) n 0
 unfoldable pub withReg : ℕ → ℕ → List ℕ → List ℕ
 withReg n v regs = if (eqb n 0) regs (set regs n v)
 
--- the record with the registers, pc, mode and saved thread replaced, and all else as it is
-unfoldable pub withThread : List ℕ → ℕ → ℕ → Saved → Processor → Processor
-withThread regs pc mode saved r =
+-- the record with one of its parts replaced, and all else as it is: whoever changes a part names it alone
+abbrev pub withRegs : List ℕ → Processor → Processor
+withRegs x r = record { regs = x; pc = r .pc; epc = r .epc; cause = r .cause; pid = r .pid; cid = r .cid; cem = r .cem }
+
+abbrev pub withPc : ℕ → Processor → Processor
+withPc x r = record { regs = r .regs; pc = x; epc = r .epc; cause = r .cause; pid = r .pid; cid = r .cid; cem = r .cem }
+
+abbrev pub withEpc : ℕ → Processor → Processor
+withEpc x r = record { regs = r .regs; pc = r .pc; epc = x; cause = r .cause; pid = r .pid; cid = r .cid; cem = r .cem }
+
+abbrev pub withCause : ℕ → Processor → Processor
+withCause x r = record { regs = r .regs; pc = r .pc; epc = r .epc; cause = x; pid = r .pid; cid = r .cid; cem = r .cem }
+
+abbrev pub withIds : ℕ → ℕ → Processor → Processor
+withIds x y r = record { regs = r .regs; pc = r .pc; epc = r .epc; cause = r .cause; pid = x; cid = y; cem = r .cem }
+
+abbrev pub withCem : Cem → Processor → Processor
+withCem x r = record { regs = r .regs; pc = r .pc; epc = r .epc; cause = r .cause; pid = r .pid; cid = r .cid; cem = x }
+
+-- and with one of the concealed thread's
+abbrev pub withMode : ℕ → Processor → Processor
+withMode x r =
     let k = r .cem in
-    record {
-      regs = regs;
-      pc = pc;
-      epc = r .epc;
-      cause = r .cause;
-      pid = r .pid;
-      cid = r .cid;
-      cem = record { mode = mode; lock = k .lock; srh = k .srh; buffer = k .buffer; saved = saved };
-    }
+    withCem (record { mode = x; lock = k .lock; srh = k .srh; buffer = k .buffer; saved = k .saved }) r
+
+abbrev pub withLock : Bool → Processor → Processor
+withLock x r =
+    let k = r .cem in
+    withCem (record { mode = k .mode; lock = x; srh = k .srh; buffer = k .buffer; saved = k .saved }) r
+
+abbrev pub withSrh : List ℕ → Processor → Processor
+withSrh x r =
+    let k = r .cem in
+    withCem (record { mode = k .mode; lock = k .lock; srh = x; buffer = k .buffer; saved = k .saved }) r
+
+abbrev pub withBuffer : List ℕ → Processor → Processor
+withBuffer x r =
+    let k = r .cem in
+    withCem (record { mode = k .mode; lock = k .lock; srh = k .srh; buffer = x; saved = k .saved }) r
+
+abbrev pub withSaved : Saved → Processor → Processor
+withSaved x r =
+    let k = r .cem in
+    withCem (record { mode = k .mode; lock = k .lock; srh = k .srh; buffer = k .buffer; saved = x }) r
 
 -- is a concealed thread active?
 unfoldable pub active : Processor → Bool
 active r = eqb (r .cem .mode) 1
 
--- what reboot and power cut leave of a record: everything zero but the SRH (and the DRK), mode 0
-unfoldable pub reset : Board → Processor → Processor
-reset B r =
+-- the record with everything zero, mode 0
+abbrev pub blank : Board → Processor
+blank B =
     record {
       regs = zeros 32;
       pc = 0;
@@ -74,11 +106,19 @@ reset B r =
           record {
             mode = 0;
             lock = false;
-            srh = r .cem .srh;
+            srh = zeros (32 / B .wordBytes);
             buffer = zeros (32 / B .wordBytes);
             saved = record { hash = zeros 16; address = 0; pid = 0; cid = 0 };
           };
     }
+
+-- a record with what every restart keeps of the one that was: the SRH (the DRK stays with the memory)
+abbrev pub keeping : Processor → Processor → Processor
+keeping was r = withSrh (was .cem .srh) r
+
+-- what reboot and power cut leave of a record
+unfoldable pub reset : Board → Processor → Processor
+reset B r = keeping r (blank B)
 
 -- a record that refusal 105 lets pass: R0 is zero and the mode is at most 2
 pub record Sane (r : Processor) : Type 0 where

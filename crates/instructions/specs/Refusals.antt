@@ -4,15 +4,11 @@ use mathlib.Core.Bool.{Bool, not, _&&_, _||_}
 use mathlib.Core.List.{List, [], _∷_, _++_}
 use lib.ListN.{length}
 use lib.Dec.{eqb, leb, ltb}
-use Rattle.lists.specs.If.{if}
 use Rattle.model.specs.Uncached.{Uncached}
 use Rattle.model.specs.Cached.{Cached}
+unfoldable pub use Rattle.instructions.specs.Rules.{orElse}
 use Rattle.instructions.specs.Board.{Board}
 use Rattle.instructions.specs.Record.{Processor, reg}
-
--- the first number unless it is 0, and then the second
-unfoldable pub orElse : ℕ → ℕ → ℕ
-orElse a b = if (eqb a 0) b a
 
 -- M is a multiple of 64, 128 ≤ M ≤ 65,536
 unfoldable pub sizeFine : ℕ → Bool
@@ -25,7 +21,9 @@ memoryFlaws M A = (not (sizeFine M), 101) ∷ (not (eqb A (M / 4)), 102) ∷ []
 -- 103 C or the data bytes not as above; 104 the directory not as above
 unfoldable pub cacheFlaws : Board → ℕ → ℕ → List ℕ → List (Bool × ℕ)
 cacheFlaws B M bytes dir =
-    (not (B .slotsFine (length dir) && eqb bytes (length dir * 64)), 103) ∷ (not (B .directoryFine (M / 64) dir), 104) ∷ []
+    (not (B .slotsFine (length dir) && eqb bytes (length dir * 64)), 103)
+    ∷ (not (B .directoryFine (M / 64) dir), 104)
+    ∷ []
 
 -- 105 R0 in the record is not zero, or its mode is above 2
 unfoldable pub recordFlaws : Processor → List (Bool × ℕ)
@@ -49,7 +47,8 @@ rowFlaws rows dir = (not (eqb rows (length dir)), 110) ∷ []
 
 -- 101 to 104, for what is lent to the machine with a cache
 unfoldable pub cachedFlaws : Board → Cached → List (Bool × ℕ)
-cachedFlaws B s = memoryFlaws (length (s .mem)) (length (s .macs)) ++ cacheFlaws B (length (s .mem)) (length (s .cache)) (s .dir)
+cachedFlaws B s =
+    memoryFlaws (length (s .mem)) (length (s .macs)) ++ cacheFlaws B (length (s .mem)) (length (s .cache)) (s .dir)
 
 -- 101 and 102, for what is lent to the machine without one
 unfoldable pub uncachedFlaws : Uncached → List (Bool × ℕ)

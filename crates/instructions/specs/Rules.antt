@@ -10,6 +10,10 @@ abbrev pub firstOf : List (Bool × ℕ) → ℕ
 firstOf [] = 0
 firstOf (r ∷ rs) = if (r .0) (r .1) (firstOf rs)
 
+-- the first number unless it is 0, and then the second
+unfoldable pub orElse : ℕ → ℕ → ℕ
+orElse a b = if (eqb a 0) b a
+
 -- what a table says of number n, and the last argument where it has no line for n
 abbrev pub pick {ℓ} : {A : Type ℓ} → ℕ → List (ℕ × A) → A → A
 pick n [] d = d

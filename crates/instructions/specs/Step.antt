@@ -9,38 +9,45 @@ use Rattle.model.specs.Cipher.{Cipher}
 use Rattle.model.specs.Requests.{Prog, ret, andThen}
 use Rattle.instructions.specs.Rules.{pick}
 use Rattle.instructions.specs.Board.{Board}
-use Rattle.instructions.specs.Record.{Processor, active}
+use Rattle.instructions.specs.Record.{Processor}
 use Rattle.instructions.specs.Fields.{opcode}
-use Rattle.instructions.specs.Operations.{Ra, address, keyFrom, executed}
+use Rattle.instructions.specs.Operations.{Ra, Rb, twoWords, address, executed}
 use Rattle.instructions.specs.Suspend.{entered, returned}
 use Rattle.instructions.specs.Faults.{fetchFault, decodeFault, lateFault}
 use Rattle.instructions.specs.Wishes.{Wish, idle, word, newKey, Got, grant}
 
--- the fetch: the instruction word at pc, as signed code in active mode
+-- the fetch by its fault, the mode and pc: nothing where it faulted, and otherwise the instruction word at pc, as
+-- signed code in active mode
+unfoldable pub fetchOf : ℕ → ℕ → ℕ → Wish
+fetchOf fault mode pc = if (eqb fault 0) (word (if (eqb mode 1) secureInstruction noTag) pc 4 false 0) idle
+
+-- the fetch of a step
 unfoldable pub fetchWish : ℕ → Processor → Wish
-fetchWish M r = if (eqb (fetchFault M r) 0) (word (if (active r) secureInstruction noTag) (r .pc) 4 false 0) idle
+fetchWish M r = fetchOf (fetchFault M r) (r .cem .mode) (r .pc)
 
 -- the fault that is known once the fetch has answered: its own, 4 where the line's MAC failed, or what decoding finds
 unfoldable pub knownFault : Board → ℕ → Processor → Got → ℕ
 knownFault B M r got =
     if (eqb (fetchFault M r) 0) (if (got .failed) 4 (decodeFault B M r (got .number))) (fetchFault M r)
 
--- the data access: load and store as the line stands, secure_load and secure_store on protected lines, and drk.set's new key
-unfoldable pub dataWish : Board → ℕ → Processor → Got → Wish
-dataWish B M r got =
-    let w = got .number in
-    let a = address B r w in
-    let k = B .wordBytes in
-    if (eqb (knownFault B M r got) 0)
-    (pick (opcode w)
-    ((10, word noTag a k false 0)
-    ∷ (11, word noTag a k true (Ra r w))
-    ∷ (32, newKey (keyFrom r w))
-    ∷ (41, word secureData a k false 0)
-    ∷ (42, word secureData a k true (Ra r w))
-    ∷ [])
-    idle)
-    idle
+-- the data accesses by opcode, at address a, of the words x and y in Ra and Rb: load and store as the line stands,
+-- drk.set's new key, secure_load and secure_store on protected lines
+abbrev pub wishes : Board → ℕ → ℕ → ℕ → List (ℕ × Wish)
+wishes B a x y =
+    (10, word noTag a (B .wordBytes) false 0)
+    ∷ (11, word noTag a (B .wordBytes) true x)
+    ∷ (32, newKey (twoWords x y))
+    ∷ (41, word secureData a (B .wordBytes) false 0)
+    ∷ (42, word secureData a (B .wordBytes) true x)
+    ∷ []
+
+-- the data access of an instruction with nothing amiss, under a DRK
+unfoldable pub wishFor : Board → Cipher → List ℕ → Processor → ℕ → Wish
+wishFor B c key r w = pick (opcode w) (wishes B (address B r w) (Ra r w) (Rb r w)) idle
+
+-- the data access of a step, its fetch having answered
+unfoldable pub dataWish : Board → Cipher → List ℕ → ℕ → Processor → Got → Wish
+dataWish B c key M r got = if (eqb (knownFault B M r got) 0) (wishFor B c key r (got .number)) idle
 
 -- the fault of the step, 0 for none, and the record after it
 pub record Stepped : Type 0 where
@@ -53,12 +60,14 @@ finished B c key M r got data′ =
     let w = got .number in
     let known = knownFault B M r got in
     let fault = if (eqb known 0) (lateFault B c key r w (data′ .failed)) known in
+    let done = if (eqb (opcode w) 16) (returned B c key r) (executed B c key r w (data′ .number)) in
     record {
       fault = fault;
-      processor = if (eqb fault 0) (if (eqb (opcode w) 16) (returned B c key r) (executed B c key r w (data′ .number))) (entered B c key fault r);
+      processor = if (eqb fault 0) done (entered B c key fault r);
     }
 
 -- one instruction as a program of requests, under a DRK, on a memory of M bytes
 unfoldable pub instruction : Board → Cipher → List ℕ → ℕ → Processor → Prog Stepped
 instruction B c key M r =
-    andThen (grant (fetchWish M r)) (λ got. andThen (grant (dataWish B M r got)) (λ data′. ret (finished B c key M r got data′)))
+    andThen (grant (fetchWish M r))
+    (λ got. andThen (grant (dataWish B c key M r got)) (λ data′. ret (finished B c key M r got data′)))

@@ -30,5 +30,6 @@ gotFrom a k (some line) = record { failed = false; number = little (partAt (a % 
 -- a wish as a program
 unfoldable pub grant : Wish → Prog Got
 grant idle = ret (record { failed = false; number = 0 })
-grant (word tag a k write v) = ask (access tag (a / 64) write (putAt (a % 64) k (littleBytes k v))) (λ reply. ret (gotFrom a k reply))
+grant (word tag a k write v) =
+    ask (access tag (a / 64) write (putAt (a % 64) k (littleBytes k v))) (λ reply. ret (gotFrom a k reply))
 grant (newKey key) = ask (rekey key) (λ reply. ret (record { failed = false; number = 0 }))

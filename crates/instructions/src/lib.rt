@@ -1,1 +1,2 @@
-// The meaning of the processor: its record, its instructions and faults, and the calls of the host. Definitions and laws only, no code.
+// The meaning of the processor: its record, its instructions and faults, and the calls of the host; definitions and
+// laws only, no code.

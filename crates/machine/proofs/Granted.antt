@@ -20,7 +20,7 @@ use Rattle.model.specs.Cached.{Cached, Did, cached, cachedHandle, readyPlace, h
 use Rattle.model.specs.Cached.{serves, evictAll, evictPlace, fillPlace, thenDo}
 use Rattle.model.proofs.Ways.{ready-hit, ready-miss}
 use Rattle.directory.specs.Direct.{direct}
-use Rattle.instructions.specs.Wishes.{Wish, idle, word, newKey, grant, gotFrom}
+use Rattle.instructions.specs.Wishes.{Wish, idle, word, grant, gotFrom}
 use Rattle.sealing.specs.Lines.{drkOf}
 use Rattle.ciphers.specs.Cipher.{aesCipher}
 use Rattle.cache.specs.Lent.{Fit}

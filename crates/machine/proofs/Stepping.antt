@@ -1,17 +1,17 @@
 -- One instruction put together from its phases.
-use Prim.Native.Nat.{ℕ, _+_, _*_, _/_, _%_, _≤_, _<_}
+use Prim.Native.Nat.{ℕ, _+_, _*_, _/_, _%_}
 use native.Mathlib.Omega.{arith}
 use mathlib.Core.Path.{_≡_, refl, sym, ap, ap₂, _∙_, subst}
 use mathlib.Core.Bool.{Bool, true, false}
-use mathlib.Core.List.{List, _++_}
+use mathlib.Core.List.{List}
 use lib.ListN.{length}
 use lib.Dec.{eqb}
-use borrow.Author.Tests.{eq-eqb, ne-eqb, eqb-true, eqb-false}
+use borrow.Author.Tests.{eq-eqb, ne-eqb}
 use Rattle.lists.specs.If.{if}
 use Rattle.lists.proofs.Cases.{by-test, by-eq}
 use Rattle.model.specs.Tags.{Tag, tagNamed}
 use Rattle.model.specs.Log.{Counts, countsOf, plus}
-use Rattle.model.specs.Requests.{perform}
+use Rattle.model.specs.Requests.{Ran, perform}
 use Rattle.model.specs.Cached.{Cached, cached, cachedHandle, accessPlace, readyPlace, writePlace, hitPlace, thenDo}
 use Rattle.model.specs.Cached.{evictPlace, fillPlace, serves}
 use Rattle.model.proofs.Sums.{counts-append}
@@ -19,12 +19,14 @@ use Rattle.directory.specs.Direct.{direct}
 use Rattle.directory.proofs.DirectLaws.{direct-laws}
 use Rattle.keeps.proofs.Requests.{perform-good}
 use Rattle.instructions.specs.Board.{documentBoard}
-use Rattle.instructions.specs.Record.{Processor, active}
+use Rattle.instructions.specs.Record.{Processor}
 use Rattle.instructions.specs.Fields.{opcode}
-use Rattle.instructions.specs.Operations.{keyFrom}
+use Rattle.instructions.specs.Operations.{Ra, Rb, address, keyFrom}
 use Rattle.instructions.specs.Faults.{fetchFault, lateFault}
-use Rattle.instructions.specs.Wishes.{Wish, idle, word, newKey, Got, grant, gotFrom}
-use Rattle.instructions.specs.Step.{fetchWish, dataWish, knownFault, finished, instruction}
+use Rattle.instructions.specs.Wishes.{Wish, idle, word, newKey, Got, grant}
+use Rattle.instructions.specs.Step.{Stepped, fetchOf, fetchWish, wishes, wishFor, dataWish, knownFault, finished}
+use Rattle.instructions.specs.Step.{instruction}
+use Rattle.instructions.proofs.RuleLaws.{pick-each}
 use Rattle.instructions.specs.Calls.{Machine, cachedSetup, step}
 use Rattle.instructions.proofs.Phases.{fetchPhase, dataPhase, phases}
 use Rattle.sound.proofs.Programs.{FairWish, fair-word, fetch-fair, data-fair, grant-sound, instruction-sound}
@@ -38,7 +40,7 @@ use Rattle.registers.specs.Wanted.{Decides, wishOf}
 use Rattle.registers.specs.Effects.{Finishes, nextKey}
 use Rattle.registers.specs.declared.decide.Wanted.{Wanted}
 use Rattle.registers.specs.declared.record.Special.{Special}
-use Rattle.machine.specs.Grants.{Grants, Obtains, Inside, fetchOf}
+use Rattle.machine.specs.Grants.{Grants, Obtains, Inside}
 use Rattle.machine.specs.Steps.{Steps, machineOf}
 
 -- a line has eight words
@@ -47,42 +49,42 @@ unfolding documentBoard
 eight-words = refl
 
 -- the wish of a fetch is the meaning's
-pub fetch-wish : (M : ℕ) (p : Processor) (f : ℕ) → f ≡ fetchFault M p
-    → fetchOf f (p .cem .mode) (p .pc) ≡ fetchWish M p
-unfolding fetchOf fetchWish active
+pub fetch-wish : (M : ℕ) (p : Processor) (f : ℕ) → f ≡ fetchFault M p → fetchOf f (p .cem .mode) (p .pc) ≡ fetchWish M p
+unfolding fetchWish
 fetch-wish M p f e = rw e
 
-inside-word : (N M : ℕ) (tag : Tag) (a k : ℕ) (write : Bool) (v : ℕ) → M ≡ N * 64
-    → FairWish N (word tag a k write v) → Inside a k M
+inside-word : (N M : ℕ) (tag : Tag) (a k : ℕ) (write : Bool) (v : ℕ) → M ≡ N * 64 → FairWish N (word tag a k write v)
+    → Inside a k M
 inside-word N M tag a k write v e (fair-word line place t) = record { line = omega arith; place = place }
 
 -- a fetch without fault lies in one line of memory
 pub fetch-inside : (M : ℕ) (p : Processor) → M % 64 ≡ 0 → fetchFault M p ≡ 0 → Inside (p .pc) 4 M
-unfolding fetchWish
+unfolding fetchWish fetchOf
 fetch-inside M p h z =
     let N = M / 64 in
     let e : M ≡ N * 64 = omega arith in
     inside-word N M _ (p .pc) 4 false 0 e (rw (eq-eqb (fetchFault M p) 0 z) at (fetch-fair N M p e))
 
 -- and so does a data access
-pub data-inside : (M : ℕ) (p : Processor) (got : Got) (q : Wanted) → M % 64 ≡ 0 → Decides M p got q
-    → q .kind ≡ 1 → Inside (q .address) 8 M
+pub data-inside : (M : ℕ) (key : List ℕ) (p : Processor) (got : Got) (q : Wanted) → M % 64 ≡ 0
+    → Decides documentBoard aesCipher M key p got q → q .kind ≡ 1 → Inside (q .address) 8 M
 unfolding wishOf
-data-inside M p got q h D k =
+data-inside M key p got q h D k =
     let N = M / 64 in
     let e : M ≡ N * 64 = omega arith in
-    let f : FairWish N (wishOf q) =
-    subst (FairWish N) (sym (D .wish)) (data-fair documentBoard 8 eight-words N M e p got) in
+    let fair = data-fair documentBoard 8 eight-words N M e p aesCipher key got in
+    let f : FairWish N (wishOf q) = subst (FairWish N) (sym (D .wish)) fair in
     inside-word N M (tagNamed (q .tag)) (q .address) 8 (q .write) (q .value) e (rw k at f)
 
 -- after a fair wish the memory is fit
 pub granted-fit : (wish : Wish) (s t : Cached) (failed : Bool) (n : ℕ) (k : Counts)
-    → FairWish (length (s .mem) / 64) wish → Fit s → Grants wish s failed n k t → Fit t
+    → FairWish (length (s .mem) / 64) wish → Fit s
+    → Grants wish s failed n k t → Fit t
 granted-fit wish s t failed n k f F G =
     let N = length (s .mem) / 64 in
     let C = length (s .dir) in
-    rw (G .left) (good-fit N C (perform (cached aesCipher direct) (grant wish) s .state)
-    (perform-good aesCipher aesLaws direct direct-laws N C (grant wish) s (grant-sound N wish f) F))
+    let good = perform-good aesCipher aesLaws direct direct-laws N C (grant wish) s (grant-sound N wish f) F in
+    rw (G .left) (good-fit N C (perform (cached aesCipher direct) (grant wish) s .state) good)
 
 -- an access keeps the key
 access-key : (tag : Tag) (n p : ℕ) (write : Bool) (change : List ℕ → List ℕ) (s : Cached)
@@ -106,68 +108,64 @@ idle-keeps : KeepsKey idle
 unfolding perform grant
 idle-keeps = record { kept = λ s. refl }
 
-same-either : {A : Type 0} (b : Bool) (x : A) → if b x x ≡ x
-same-either true x = refl
-same-either false x = refl
+if-same : {A : Type 0} (b : Bool) (x : A) → if b x x ≡ x
+if-same true x = refl
+if-same false x = refl
 
 -- only drk.set's data access changes the key, and it does not fail
-module _ (M : ℕ) (p : Processor) (got : Got) (s : Cached) where
+module _ (M : ℕ) (key : List ℕ) (p : Processor) (got : Got) (s : Cached) where
   abbrev w : ℕ
   w = got .number
 
-  abbrev after : Cached
-  after = perform (cached aesCipher direct) (grant (dataWish documentBoard M p got)) s .state
+  abbrev wish : Wish
+  wish = dataWish documentBoard aesCipher key M p got
 
-  key-faulty : (knownFault documentBoard M p got ≡ 0 → ⊥) → KeepsKey (dataWish documentBoard M p got)
+  abbrev done : Wish → Ran Got Cached
+  done x = perform (cached aesCipher direct) (grant x) s
+
+  key-faulty : (knownFault documentBoard M p got ≡ 0 → ⊥) → KeepsKey wish
   unfolding dataWish
   key-faulty h = rw (ne-eqb (knownFault documentBoard M p got) 0 h) idle-keeps
 
-  new-key : knownFault documentBoard M p got ≡ 0 → opcode w ≡ 32 → dataWish documentBoard M p got ≡ newKey
-      (keyFrom p w)
-  unfolding dataWish
+  new-key : knownFault documentBoard M p got ≡ 0 → opcode w ≡ 32 → wish ≡ newKey (keyFrom p w)
+  unfolding dataWish wishFor
   new-key h e = rw (eq-eqb (knownFault documentBoard M p got) 0 h, e)
 
-  new-key-is : (key : List ℕ) → (perform (cached aesCipher direct) (grant (newKey key)) s .state .key ≡ key)
-      × (perform (cached aesCipher direct) (grant (newKey key)) s .out .failed ≡ false)
+  new-key-is : (k : List ℕ) → (done (newKey k) .state .key ≡ k) × (done (newKey k) .out .failed ≡ false)
   unfolding perform grant cached cachedHandle
-  new-key-is key = (refl, refl)
+  new-key-is k = (refl, refl)
 
-  key-old : knownFault documentBoard M p got ≡ 0 → (opcode w ≡ 32 → ⊥)
-      → KeepsKey (dataWish documentBoard M p got)
-  unfolding dataWish
+  key-old : knownFault documentBoard M p got ≡ 0 → (opcode w ≡ 32 → ⊥) → KeepsKey wish
+  unfolding dataWish wishFor
   key-old h d =
       rw (eq-eqb (knownFault documentBoard M p got) 0 h)
-      (by-eq (opcode w) 10 (λ e. rw e (word-keeps _ _ _ _ _))
-      (λ a. by-eq (opcode w) 11 (λ e. rw e (word-keeps _ _ _ _ _))
-      (λ b. by-eq (opcode w) 41 (λ e. rw e (word-keeps _ _ _ _ _))
-      (λ f. by-eq (opcode w) 42 (λ e. rw e (word-keeps _ _ _ _ _))
-      (λ g. rw (
-        ne-eqb (opcode w) 10 a,
-        ne-eqb (opcode w) 11 b,
-        ne-eqb (opcode w) 32 d,
-        ne-eqb (opcode w) 41 f,
-        ne-eqb (opcode w) 42 g,
-      ) idle-keeps)))))
+      (pick-each KeepsKey (opcode w) (wishes documentBoard (address documentBoard p w) (Ra p w) (Rb p w)) idle (
+        λ e. word-keeps _ _ _ _ _,
+        (
+          λ e. word-keeps _ _ _ _ _,
+          (
+            λ e. absurd (d e),
+            (λ e. word-keeps _ _ _ _ _, (λ e. word-keeps _ _ _ _ _, tt {0})),
+          ),
+        ),
+      )
+      idle-keeps)
 
   -- the DRK after a step is the next memory's key
-  pub key-after : (key : List ℕ) (data′ : Got) (n : ℕ) → s .key ≡ key
-      → data′ .failed ≡ perform (cached aesCipher direct) (grant (dataWish documentBoard M p got)) s .out .failed
+  pub key-after : (data′ : Got) (n : ℕ) → s .key ≡ key → data′ .failed ≡ done wish .out .failed
       → n ≡ finished documentBoard aesCipher key M p got data′ .fault
-      → if (eqb n 0) (nextKey key p w) key ≡ after .key
+      → if (eqb n 0) (nextKey key p w) key ≡ done wish .state .key
   unfolding finished nextKey lateFault
-  key-after key data′ n k f e =
+  key-after data′ n k f e =
       by-eq (knownFault documentBoard M p got) 0
       (λ h.
       by-eq (opcode w) 32
       (λ o.
       let x = new-key h o in
-      let z : data′ .failed ≡ false = f
-      ∙ (ap (λ (y : Wish). perform (cached aesCipher direct) (grant y) s .out .failed) x
-      ∙ new-key-is (keyFrom p w) .1) in
+      let z : data′ .failed ≡ false = f ∙ (ap (λ (y : Wish). done y .out .failed) x ∙ new-key-is (keyFrom p w) .1) in
       let y : n ≡ 0 = rw (eq-eqb (knownFault documentBoard M p got) 0 h, z, o) at e in
-      rw (y, o) (sym (ap (λ (y : Wish). perform (cached aesCipher direct) (grant y) s .state .key) x
-      ∙ new-key-is (keyFrom p w) .0)))
-      (λ o. rw (ne-eqb (opcode w) 32 o) (same-either (eqb n 0) key ∙ (sym k ∙ sym (key-old h o .kept s)))))
+      rw (y, o) (sym (ap (λ (y : Wish). done y .state .key) x ∙ new-key-is (keyFrom p w) .0)))
+      (λ o. rw (ne-eqb (opcode w) 32 o) (if-same (eqb n 0) key ∙ (sym k ∙ sym (key-old h o .kept s)))))
       (λ h.
       let y : n ≡ knownFault documentBoard M p got = rw (ne-eqb (knownFault documentBoard M p got) 0 h) at e in
       rw (y, ne-eqb (knownFault documentBoard M p got) 0 h) (sym k ∙ sym (key-faulty h .kept s)))
@@ -180,42 +178,45 @@ module _ (regs : List ℕ) (q : Special) (mem macs cache dir : List ℕ) where
   abbrev s : Cached
   s = lent (q .drkhi) (q .drklo) mem macs cache dir
 
-  pub stepped : (f : ℕ) (failed : Bool) (n : ℕ) (k₁ : Counts) (t : Cached) (x : Wanted) (failed₂ : Bool)
-      (n₂ : ℕ) (k₂ k : Counts) (mem′ macs′ cache′ dir′ regs′ : List ℕ) (q′ : Special) (fault : ℕ)
-      → f ≡ fetchFault (length mem) p → t .key ≡ keyOf q → Grants (fetchOf f (q .mode) (q .pc)) s failed n
-      k₁ t → Decides (length mem) p (record { failed = failed; number = n }) x
+  pub stepped : (f : ℕ) (failed : Bool) (n : ℕ) (k₁ : Counts) (t : Cached) (x : Wanted) (failed₂ : Bool) (n₂ : ℕ)
+      (k₂ k : Counts)
+      (mem′ macs′ cache′ dir′ regs′ : List ℕ) (q′ : Special) (fault : ℕ) → f ≡ fetchFault (length mem) p
+      → t .key ≡ keyOf q
+      → Grants (fetchOf f (q .mode) (q .pc)) s failed n k₁ t
+      → Decides documentBoard aesCipher (length mem) (keyOf q) p (record { failed = failed; number = n }) x
       → Obtains (wishOf x) t failed₂ n₂ k₂ mem′ macs′ cache′ dir′ → k ≡ plus k₁ k₂
-      → Finishes (length mem) (keyOf q) p (record { failed = failed; number = n })
-      (record { failed = failed₂; number = n₂ }) fault regs′ q′ → Steps (machineOf regs q mem macs cache dir)
-      fault k (machineOf regs′ q′ mem′ macs′ cache′ dir′)
+      → Finishes documentBoard aesCipher (length mem) (keyOf q) p (record { failed = failed; number = n })
+      (record { failed = failed₂; number = n₂ }) fault regs′ q′
+      → Steps (machineOf regs q mem macs cache dir) fault k (machineOf regs′ q′ mem′ macs′ cache′ dir′)
   unfolding step cachedSetup cached fetchPhase dataPhase documentBoard
   stepped f failed n k₁ t x failed₂ n₂ k₂ k mem′ macs′ cache′ dir′ regs′ q′ fault e tk G D O c F =
       let M = length mem in
       let C = cached aesCipher direct in
       let got : Got = record { failed = failed; number = n } in
       let data′ : Got = record { failed = failed₂; number = n₂ } in
+      let wish : Got → Wish = dataWish documentBoard aesCipher (keyOf q) M p in
+      let end : Got → Got → Stepped = finished documentBoard aesCipher (keyOf q) M p in
       let A = perform C (grant (fetchWish M p)) s in
       let u : fetchOf f (q .mode) (q .pc) ≡ fetchWish M p = fetch-wish M p f e in
       let G′ : Grants (fetchWish M p) s failed n k₁ t = rw u at G in
       let o₁ : got ≡ A .out = λ i. record { failed = G′ .missed i; number = G′ .found i } in
-      let B = perform C (grant (dataWish documentBoard M p got)) t in
+      let B = perform C (grant (wish got)) t in
       let H = rw (D .wish) at (O .grants) in
       let o₂ : data′ ≡ B .out = λ i. record { failed = H .missed i; number = H .found i } in
-      let same-data : perform C (grant (dataWish documentBoard M p (A .out))) (A .state) ≡ B =
-      λ i. perform C (grant (dataWish documentBoard M p (sym o₁ i))) (sym (G′ .left) i) in
+      let A-then = perform C (grant (wish (A .out))) (A .state) in
+      let same-data : A-then ≡ B = λ i. perform C (grant (wish (sym o₁ i))) (sym (G′ .left) i) in
+      let same-out : data′ ≡ A-then .out = o₂ ∙ ap (λ z. z .out) (sym same-data) in
       let ph = phases C documentBoard aesCipher (keyOf q) M p s in
-      let key-is : keyOf q′ ≡ B .state .key = F .drk ∙ key-after M p got t (keyOf q) data′ fault tk (H .missed)
-      (F .number) in
+      let key-is : keyOf q′ ≡ B .state .key =
+      F .drk ∙ key-after M (keyOf q) p got t data′ fault tk (H .missed) (F .number) in
+      let counts = ap₂ plus (G′ .counted) (H .counted ∙ ap (λ z. countsOf (z .log)) (sym same-data)) in
       record {
-        number = F .number ∙ (λ i. finished documentBoard aesCipher (keyOf q) M p (o₁ i)
-            ((o₂ ∙ ap (λ z. z .out) (sym same-data)) i) .fault) ∙ ap (λ z. z .out .fault) (sym ph);
-        processor = F .holds ∙ (λ i. finished documentBoard aesCipher (keyOf q) M p (o₁ i)
-            ((o₂ ∙ ap (λ z. z .out) (sym same-data)) i) .processor) ∙ ap (λ z. z .out .processor) (sym ph);
-        memory = (λ i. record { key = key-is i; mem = mem′; macs = macs′; cache = cache′; dir = dir′ })
+        number = F .number ∙ (λ i. end (o₁ i) (same-out i) .fault) ∙ ap (λ z. z .out .fault) (sym ph);
+        processor = F .holds ∙ (λ i. end (o₁ i) (same-out i) .processor) ∙ ap (λ z. z .out .processor) (sym ph);
+        memory =
+            (λ i. record { key = key-is i; mem = mem′; macs = macs′; cache = cache′; dir = dir′ })
             ∙ (H .left ∙ (ap (λ z. z .state) (sym same-data) ∙ ap (λ z. z .state) (sym ph)));
-        counted = c ∙ (ap₂ plus (G′ .counted) (H .counted ∙ ap (λ z. countsOf (z .log)) (sym same-data))
-            ∙ (sym (counts-append (A .log) (perform C (grant (dataWish documentBoard M p (A .out))) (A .state) .log))
-            ∙ ap (λ z. countsOf (z .log)) (sym ph)));
+        counted = c ∙ (counts ∙ (sym (counts-append (A .log) (A-then .log)) ∙ ap (λ z. countsOf (z .log)) (sym ph)));
       }
 
 -- after a step the memory is fit
@@ -227,20 +228,22 @@ steps-fit m m′ fault k F S =
     let N = length (s .mem) / 64 in
     let C = length (s .dir) in
     let e : length (s .mem) ≡ N * 64 = F .mem in
-    let prog = instruction documentBoard aesCipher (s .key) (length (s .mem)) (m .processor) in
+    let M = length (s .mem) in
+    let prog = instruction documentBoard aesCipher (s .key) M (m .processor) in
+    let sound = instruction-sound documentBoard 8 eight-words N M e (m .processor) aesCipher (s .key) in
     rw (S .memory)
     (good-fit N C (perform (cached aesCipher direct) prog s .state)
-    (perform-good aesCipher aesLaws direct direct-laws N C prog s (instruction-sound documentBoard 8 eight-words N
-    (length (s .mem)) e (m .processor) aesCipher (s .key)) F))
+    (perform-good aesCipher aesLaws direct direct-laws N C prog s sound F))
 
 -- after the fetch the memory is fit
 pub fetched-fit : (p : Processor) (f : ℕ) (s t : Cached) (failed : Bool) (n : ℕ) (k : Counts)
-    → f ≡ fetchFault (length (s .mem)) p → Fit s → Grants (fetchOf f (p .cem .mode) (p .pc)) s failed n k t
-    → Fit t
+    → f ≡ fetchFault (length (s .mem)) p → Fit s
+    → Grants (fetchOf f (p .cem .mode) (p .pc)) s failed n k t → Fit t
 fetched-fit p f s t failed n k e F G =
-    let N = length (s .mem) / 64 in
-    granted-fit (fetchOf f (p .cem .mode) (p .pc)) s t failed n k
-    (subst (FairWish N) (sym (fetch-wish (length (s .mem)) p f e)) (fetch-fair N (length (s .mem)) p (F .mem))) F G
+    let M = length (s .mem) in
+    let N = M / 64 in
+    let fair = subst (FairWish N) (sym (fetch-wish M p f e)) (fetch-fair N M p (F .mem)) in
+    granted-fit (fetchOf f (p .cem .mode) (p .pc)) s t failed n k fair F G
 
 -- what a wish counts is small
 pub grants-small : (wish : Wish) (s t : Cached) (failed : Bool) (n : ℕ) (k : Counts) → Grants wish s failed n k t

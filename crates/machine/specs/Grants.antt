@@ -1,19 +1,19 @@
 -- What a memory phase promises: what the cached memory makes of a wish, its counts being the sums over the notes.
 use Prim.Native.Nat.{ℕ, _+_, _*_, _/_, _%_, _<_, _≤_}
 use mathlib.Core.Path.{_≡_}
-use mathlib.Core.Bool.{Bool, true, false}
+use mathlib.Core.Bool.{Bool}
 use mathlib.Core.List.{List}
-use lib.Dec.{eqb}
 use Rattle.lists.specs.Parts.{partAt, putAt}
 use Rattle.lists.specs.Words.{little, littleBytes}
 use Rattle.lists.specs.If.{if}
-use Rattle.model.specs.Tags.{noTag, secureInstruction, tagNamed}
+use Rattle.model.specs.Tags.{tagNamed}
 use Rattle.model.specs.Log.{Counts, countsOf}
 use Rattle.model.specs.Placement.{holding}
 use Rattle.model.specs.Requests.{perform}
 use Rattle.model.specs.Cached.{Cached, cached}
 use Rattle.directory.specs.Direct.{direct}
-use Rattle.instructions.specs.Wishes.{Wish, idle, word, grant}
+use Rattle.instructions.specs.Wishes.{Wish, grant}
+unfoldable pub use Rattle.instructions.specs.Step.{fetchOf}
 use Rattle.ciphers.specs.Cipher.{aesCipher}
 
 -- did the line's check fail, the number that stood there, the counts and the next memory
@@ -31,8 +31,7 @@ pub record Obtains (wish : Wish) (s : Cached) (failed : Bool) (number : ℕ) (k 
         key = perform (cached aesCipher direct) (grant wish) s .state .key;
         mem = mem;
         macs = macs;
-        cache =
-            cache;
+        cache = cache;
         dir = dir;
       })
 
@@ -47,8 +46,3 @@ pub record Touches (slot at tag n : ℕ) (write : Bool) (v r : ℕ) (cache dir c
     pub number : r ≡ little (partAt (slot * 64 + at) 8 cache)
     pub bytes : cache′ ≡ if write (putAt (slot * 64 + at) 8 (littleBytes 8 v) cache) cache
     pub marks : dir′ ≡ if write (direct .put dir slot (holding n (tagNamed tag) true)) dir
-
--- the wish of a fetch: nothing where it faulted, and otherwise the instruction word at pc, as signed code in active
--- mode
-unfoldable pub fetchOf : ℕ → ℕ → ℕ → Wish
-fetchOf fault mode pc = if (eqb fault 0) (word (if (eqb mode 1) secureInstruction noTag) pc 4 false 0) idle

@@ -3,3 +3,4 @@ pub mod Found
 pub mod Grants
 pub mod Steps
 pub mod Runs
+pub mod Lent

@@ -1,4 +1,6 @@
 // Run: at most n instructions, up to the first that faults.
+use crate::answer::Answer;
+use crate::answer::Report;
 use crate::step;
 use cache::slots;
 use cache::slots::Counts;
@@ -10,7 +12,8 @@ ghost use lib.ListN.{length};
 ghost use Rattle.instructions.specs.Board.{opcodeTable};
 ghost use Rattle.cache.specs.Lent.{lent, countsIn, Fit};
 ghost use Rattle.machine.specs.Steps.{machineOf};
-ghost use Rattle.machine.specs.Runs.{Runs};
+ghost use Rattle.machine.specs.Runs.{Runs, RunGives};
+ghost use Rattle.machine.specs.Lent.{machineIn, handed, before, after};
 
 // The answer, the steps that were done, the registers after them but R0 to R31, and what was counted.
 pub struct Ran {
@@ -133,14 +136,6 @@ const OPCODES: [u8; 64] = [
     0,
 ];
 
-// What run gives: the answer, the steps, the record and the counts.
-pub struct Outcome {
-    pub answer: u64,
-    pub steps: u64,
-    pub processor: Processor,
-    pub counts: Counts,
-}
-
 // Run at most n instructions, on a record by value.
 pub fn run(
     p: Processor,
@@ -149,13 +144,10 @@ pub fn run(
     cache: &mut [u8],
     dir: &mut [u32],
     n: u64,
-) -> Outcome
+) -> Answer
     requires { ⌜ (128 ≤ length (now mem)) × (length (now dir) ≤ 64) × (n ≤ 10000) ⌝ }
-    requires { ⌜ Fit (lent (p .special .drkhi) (p .special .drklo) (now mem) (now macs) (now cache) (now dir)) ⌝ }
-    ensures { λ x. ⌜ Runs n (machineOf (p .r) (p .special) (now (mem .entry)) (now (macs .entry))
-        (now (cache .entry)) (now (dir .entry))) (x .answer) (x .steps) (countsIn (x .counts))
-        (machineOf (x .processor .r) (x .processor .special) (now (mem .exit)) (now (macs .exit)) (now (cache .exit))
-        (now (dir .exit))) ⌝ }
+    requires { ⌜ Fit (machineIn (handed p mem macs cache dir) .memory) ⌝ }
+    ensures { λ a. ⌜ RunGives n (before p mem macs cache dir) (a .report) (after (a .processor) mem macs cache dir) ⌝ }
 {
     let t = OPCODES;
     let mut r = p.r;
@@ -163,10 +155,12 @@ pub fn run(
     let x = steps(&t, &mut r, q, mem, macs, cache, dir, n);
     let s = x.special;
     let k = x.counts;
-    Outcome {
-        answer: x.answer,
-        steps: x.steps,
+    Answer {
         processor: Processor { r, special: s },
-        counts: k,
+        report: Report {
+            answer: x.answer,
+            steps: x.steps,
+            counts: k,
+        },
     }
 }

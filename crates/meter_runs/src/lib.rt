@@ -4,8 +4,8 @@ use host::answer::Report;
 use host::dropping;
 use laying::lines;
 use laying::lines::Laid;
+use registers::record;
 use registers::record::Processor;
-use registers::record::Special;
 use sheets::running;
 use sheets::running::Sheets;
 use sheets::sheet::Sheet;
@@ -22,32 +22,16 @@ pub struct Later {
 pub fn start(b: Board) -> Processor {
     let r = b.registers;
     let srh = b.srh;
-    Processor {
-        r,
-        special: Special {
-            pc: b.pc,
-            epc: 0,
-            cause: 0,
-            drkhi: b.drkhi,
-            drklo: b.drklo,
-            srh0: srh[0],
-            srh1: srh[1],
-            srh2: srh[2],
-            srh3: srh[3],
-            word0: 0,
-            word1: 0,
-            word2: 0,
-            word3: 0,
-            hash: [0; 16],
-            address: 0,
-            pid: 0,
-            savedpid: 0,
-            cid: 0,
-            savedcid: 0,
-            mode: 0,
-            lock: false,
-        },
-    }
+    let z = record::zero();
+    let mut special = z.special;
+    special.pc = b.pc;
+    special.drkhi = b.drkhi;
+    special.drklo = b.drklo;
+    special.srh0 = srh[0];
+    special.srh1 = srh[1];
+    special.srh2 = srh[2];
+    special.srh3 = srh[3];
+    Processor { r, special }
 }
 
 // The error of laying a board's lines, or none.

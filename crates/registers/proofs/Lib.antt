@@ -1,7 +1,10 @@
 -- The laws of `registers`, file by file.
-pub mod Choices
+pub mod Words
+pub mod ByOpcode
+pub mod ValueOpcodes
+pub mod Decoding
+pub mod NextPc
 pub mod Deciding
 pub mod Suspending
 pub mod Executing
-pub mod Values
-pub mod Opcodes
+pub mod Finishing

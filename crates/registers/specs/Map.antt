@@ -1,7 +1,7 @@
--- How the code's record is read: R0 to R31 and the other registers as the processor's record of the meaning; the DRK goes to the memory.
+-- How the code's record is read: R0 to R31 and the other registers as the processor's record of the meaning; the DRK
+-- goes to the memory.
 use Prim.Native.Nat.{ℕ}
 use mathlib.Core.List.{List, [], _∷_}
-use lib.ListN.{getD}
 use Rattle.instructions.specs.Record.{Processor}
 use Rattle.sealing.specs.Lines.{drkOf}
 use Rattle.registers.specs.declared.record.Special.{Special}
@@ -33,30 +33,3 @@ processorOf regs q =
 -- the DRK, which is the memory's key
 abbrev pub keyOf : Special → List ℕ
 keyOf q = drkOf (q .drkhi) (q .drklo)
-
--- the registers with CEM_Buffer replaced by four words
-abbrev pub withWords : Special → List ℕ → Special
-withWords q l =
-    record {
-      pc = q .pc;
-      epc = q .epc;
-      cause = q .cause;
-      drkhi = q .drkhi;
-      drklo = q .drklo;
-      srh0 = q .srh0;
-      srh1 = q .srh1;
-      srh2 = q .srh2;
-      srh3 = q .srh3;
-      word0 = getD l 0 0;
-      word1 = getD l 1 0;
-      word2 = getD l 2 0;
-      word3 = getD l 3 0;
-      hash = q .hash;
-      address = q .address;
-      pid = q .pid;
-      savedpid = q .savedpid;
-      cid = q .cid;
-      savedcid = q .savedcid;
-      mode = q .mode;
-      lock = q .lock;
-    }

@@ -3,13 +3,16 @@ use crate::faults;
 use crate::fields;
 use crate::record::Special;
 ghost use mathlib.Core.Path.{_≡_};
-ghost use Prim.Native.Nat.{_≤_, _%_};
+ghost use Prim.Native.Nat.{_≤_};
+ghost use Rattle.model.specs.Tags.{tagNamed};
 ghost use Rattle.instructions.specs.Board.{documentBoard, opcodeTable};
-ghost use Rattle.instructions.specs.Faults.{fetchFault, decodeFault};
+ghost use Rattle.instructions.specs.Faults.{fetchFault};
 ghost use Rattle.instructions.specs.Operations as o;
-ghost use Rattle.instructions.specs.Wishes.{Got};
-ghost use Rattle.registers.specs.Map.{processorOf};
-ghost use Rattle.registers.specs.Wanted.{Decides, Granted, wishOf};
+ghost use Rattle.instructions.specs.Operations.{twoWords};
+ghost use Rattle.instructions.specs.Wishes.{idle, word, newKey};
+ghost use Rattle.ciphers.specs.Cipher.{aesCipher};
+ghost use Rattle.registers.specs.Map.{processorOf, keyOf};
+ghost use Rattle.registers.specs.Wanted.{Asks, Decides, Granted};
 
 // The fault that is known, and what is wanted: kind 0 nothing, 1 a word, 2 another key.
 pub struct Wanted {
@@ -24,7 +27,7 @@ pub struct Wanted {
 
 // Nothing is wanted.
 fn nothing(fault: u64) -> Wanted
-    ensures { λ q. ⌜ (q .fault ≡ fault) × (q .kind ≡ 0) × (q .tag ≡ 0) ⌝ }
+    ensures { λ q. ⌜ Asks fault idle q ⌝ }
 {
     Wanted {
         fault,
@@ -37,71 +40,52 @@ fn nothing(fault: u64) -> Wanted
     }
 }
 
+// A word at an address under a tag is wanted; where the test says so, the value is written there.
+fn word(tag: u32, address: u64, write: bool, value: u64) -> Wanted
+    requires { ⌜ tag ≤ 2 ⌝ }
+    ensures { λ q. ⌜ Asks 0 (word (tagNamed tag) address (documentBoard .wordBytes) write value) q ⌝ }
+{
+    Wanted {
+        fault: 0,
+        kind: 1,
+        tag,
+        address,
+        write,
+        value,
+        other: 0,
+    }
+}
+
+// Another key is wanted, its high word first.
+fn new_key(hi: u64, lo: u64) -> Wanted
+    ensures { λ q. ⌜ Asks 0 (newKey (twoWords hi lo)) q ⌝ }
+{
+    Wanted {
+        fault: 0,
+        kind: 2,
+        tag: 0,
+        address: 0,
+        write: false,
+        value: hi,
+        other: lo,
+    }
+}
+
 // What an instruction with nothing amiss wants.
 fn want(r: &[u64; 32], q: Special, w: u64, a: u64) -> Wanted
     requires { ⌜ a ≡ o.address documentBoard (processorOf (now r) q) w ⌝ }
-    ensures { λ x. ⌜ Granted (processorOf (now (r .entry)) q) w x ⌝ }
+    ensures { λ x. ⌜ Granted documentBoard aesCipher (keyOf q) (processorOf (now (r .entry)) q) w x ⌝ }
 {
     let op = fields::opcode(w);
-    let ai = fields::field_a(w);
-    let bi = fields::field_b(w);
-    let x = r[ai];
-    let y = r[bi];
+    let x = fields::word_a(r, w);
+    let y = fields::word_b(r, w);
     match op {
-        10 => Wanted {
-            fault: 0,
-            kind: 1,
-            tag: 0,
-            address: a,
-            write: false,
-            value: 0,
-            other: 0,
-        },
-        11 => Wanted {
-            fault: 0,
-            kind: 1,
-            tag: 0,
-            address: a,
-            write: true,
-            value: x,
-            other: 0,
-        },
-        32 => Wanted {
-            fault: 0,
-            kind: 2,
-            tag: 0,
-            address: 0,
-            write: false,
-            value: x,
-            other: y,
-        },
-        41 => Wanted {
-            fault: 0,
-            kind: 1,
-            tag: 2,
-            address: a,
-            write: false,
-            value: 0,
-            other: 0,
-        },
-        42 => Wanted {
-            fault: 0,
-            kind: 1,
-            tag: 2,
-            address: a,
-            write: true,
-            value: x,
-            other: 0,
-        },
-        _ => Wanted {
-            fault: 0,
-            kind: 0,
-            tag: 0,
-            address: 0,
-            write: false,
-            value: 0,
-            other: 0,
-        },
+        10 => word(0, a, false, 0),
+        11 => word(0, a, true, x),
+        32 => new_key(x, y),
+        41 => word(2, a, false, 0),
+        42 => word(2, a, true, x),
+        _ => nothing(0),
     }
 }
 
@@ -118,7 +102,8 @@ pub fn decide(
     requires { ⌜ now t ≡ opcodeTable ⌝ }
     requires { ⌜ fault ≡ fetchFault m (processorOf (now r) q) ⌝ }
     requires { ⌜ 8 ≤ m ⌝ }
-    ensures { λ x. ⌜ Decides m (processorOf (now (r .entry)) q) (record { failed = failed; number = w }) x ⌝ }
+    ensures { λ x. ⌜ Decides documentBoard aesCipher m (keyOf q) (processorOf (now (r .entry)) q)
+        (record { failed = failed; number = w }) x ⌝ }
 {
     if fault != 0 {
         return nothing(fault);

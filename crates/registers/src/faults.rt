@@ -2,20 +2,17 @@
 use crate::fields;
 use crate::record::Special;
 ghost use mathlib.Core.Path.{_≡_};
-ghost use mathlib.Core.Bool.{not, _&&_, _||_};
-ghost use mathlib.Core.List.{[], _∷_};
-ghost use Prim.Native.Nat.{_≤_, _%_, _<_};
-ghost use lib.Dec.{eqb};
+ghost use Prim.Native.Nat.{_≤_};
 ghost use Rattle.instructions.specs.Rules.{firstOf};
 ghost use Rattle.instructions.specs.Board.{documentBoard, opcodeTable};
 ghost use Rattle.instructions.specs.Fields as f;
 ghost use Rattle.instructions.specs.Operations as o;
-ghost use Rattle.instructions.specs.Faults.{fetchFault, decodeFault, selListed, hasAddress};
+ghost use Rattle.instructions.specs.Faults as s;
 ghost use Rattle.registers.specs.Map.{processorOf};
 
 // 9 if pc is not a multiple of 4, 10 if pc >= M, in active mode 4 if pc mod 64 >= 48, and otherwise 0.
 pub fn fetch_fault(r: &[u64; 32], q: Special, m: u64) -> u64
-    ensures { λ n. ⌜ n ≡ fetchFault m (processorOf (now (r .entry)) q) ⌝ }
+    ensures { λ n. ⌜ n ≡ s.fetchFault m (processorOf (now (r .entry)) q) ⌝ }
 {
     if q.pc % 4 != 0 {
         return 9;
@@ -29,18 +26,17 @@ pub fn fetch_fault(r: &[u64; 32], q: Special, m: u64) -> u64
     0
 }
 
-// Rb + imm, modulo 2^64.
+// Rb + imm, as a word.
 pub fn address(r: &[u64; 32], q: Special, w: u64) -> u64
     ensures { λ a. ⌜ a ≡ o.address documentBoard (processorOf (now (r .entry)) q) w ⌝ }
 {
-    let b = fields::field_b(w);
-    let x = r[b];
-    std::num::wrapping_add_u64(x, fields::imm(w))
+    let b = fields::word_b(r, w);
+    fields::plus(b, fields::imm(w))
 }
 
 // Does the instruction name a data address?
 pub fn has_address(w: u64) -> bool
-    ensures { λ r. ⌜ r ≡ hasAddress w ⌝ }
+    ensures { λ r. ⌜ r ≡ s.hasAddress w ⌝ }
 {
     let op = fields::opcode(w);
     if op == 10 {
@@ -57,10 +53,10 @@ pub fn has_address(w: u64) -> bool
 
 // Is sel one that the opcode lists?
 fn sel_listed(w: u64) -> bool
-    ensures { λ r. ⌜ r ≡ selListed w ⌝ }
+    ensures { λ r. ⌜ r ≡ s.selListed w ⌝ }
 {
     let op = fields::opcode(w);
-    let s = w % 8;
+    let s = fields::sel(w);
     if op == 32 {
         return s == 0;
     }
@@ -73,10 +69,10 @@ fn sel_listed(w: u64) -> bool
     true
 }
 
-// What decoding finds of the opcodes from 32 on: 1, 3, 7, and otherwise 0.
-fn thread_fault(q: Special, op: u64, w: u64) -> u64
+// What decoding finds of the concealed thread's instructions, all of them from 32 on: 1, 3, 7, and otherwise 0.
+fn thread_fault(r: &[u64; 32], q: Special, op: u64, w: u64) -> u64
     requires { ⌜ op ≡ f.opcode w ⌝ }
-    ensures { λ n. ⌜ n ≡ firstOf ((eqb (f.opcode w) 32 && q .lock, 1) ∷ (eqb (f.opcode w) 39 && not (eqb (q .mode) 0), 3) ∷ (eqb (f.opcode w) 43 || not (selListed w), 7) ∷ []) ⌝ }
+    ensures { λ n. ⌜ n ≡ firstOf (s.threadFaults (processorOf (now (r .entry)) q) w) ⌝ }
 {
     if op < 32 {
         return 0;
@@ -93,12 +89,10 @@ fn thread_fault(q: Special, op: u64, w: u64) -> u64
     0
 }
 
-// What decoding finds: 11, 2, 1, 3, 7, 9, 10, and otherwise 0.
-pub fn decode_fault(t: &[u8; 64], r: &[u64; 32], q: Special, m: u64, w: u64, a: u64) -> u64
+// What decoding finds of the opcode: 11, 2, 1, 3, 7, and otherwise 0.
+fn opcode_fault(t: &[u8; 64], r: &[u64; 32], q: Special, w: u64) -> u64
     requires { ⌜ now t ≡ opcodeTable ⌝ }
-    requires { ⌜ a ≡ o.address documentBoard (processorOf (now r) q) w ⌝ }
-    requires { ⌜ 8 ≤ m ⌝ }
-    ensures { λ n. ⌜ n ≡ decodeFault documentBoard m (processorOf (now (r .entry)) q) w ⌝ }
+    ensures { λ n. ⌜ n ≡ firstOf (s.opcodeFaults documentBoard (processorOf (now (r .entry)) q) w) ⌝ }
 {
     let op = fields::opcode(w);
     let at = op as usize;
@@ -109,10 +103,15 @@ pub fn decode_fault(t: &[u8; 64], r: &[u64; 32], q: Special, m: u64, w: u64, a: 
     if fields::both(k == 2, q.mode != 1) {
         return 2;
     }
-    let f = thread_fault(q, op, w);
-    if f != 0 {
-        return f;
-    }
+    thread_fault(r, q, op, w)
+}
+
+// What decoding finds of the data address: 9, 10, and otherwise 0.
+fn address_fault(r: &[u64; 32], q: Special, m: u64, w: u64, a: u64) -> u64
+    requires { ⌜ a ≡ o.address documentBoard (processorOf (now r) q) w ⌝ }
+    requires { ⌜ 8 ≤ m ⌝ }
+    ensures { λ n. ⌜ n ≡ firstOf (s.addressFaults documentBoard m (processorOf (now (r .entry)) q) w) ⌝ }
+{
     let h = has_address(w);
     if fields::both(h, a % 8 != 0) {
         return 9;
@@ -121,4 +120,18 @@ pub fn decode_fault(t: &[u8; 64], r: &[u64; 32], q: Special, m: u64, w: u64, a: 
         return 10;
     }
     0
+}
+
+// What decoding finds: of the opcode, and then of the address.
+pub fn decode_fault(t: &[u8; 64], r: &[u64; 32], q: Special, m: u64, w: u64, a: u64) -> u64
+    requires { ⌜ now t ≡ opcodeTable ⌝ }
+    requires { ⌜ a ≡ o.address documentBoard (processorOf (now r) q) w ⌝ }
+    requires { ⌜ 8 ≤ m ⌝ }
+    ensures { λ n. ⌜ n ≡ s.decodeFault documentBoard m (processorOf (now (r .entry)) q) w ⌝ }
+{
+    let f = opcode_fault(t, r, q, w);
+    if f != 0 {
+        return f;
+    }
+    address_fault(r, q, m, w, a)
 }

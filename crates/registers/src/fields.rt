@@ -1,9 +1,10 @@
-// The fields of an instruction word, tests, and sums modulo 2^64.
+// The fields of an instruction word, the registers that they name, tests, and sums of words.
 ghost use mathlib.Core.Path.{_≡_};
 ghost use mathlib.Core.Bool.{_&&_, _||_};
 ghost use Prim.Native.Nat.{_+_, _-_, _*_, _%_, _<_};
-ghost use Rattle.lists.specs.If.{if};
-ghost use Rattle.instructions.specs.Board.{documentBoard};
+ghost use lib.ListN.{getD};
+ghost use lib.Count.{leadingZeros};
+ghost use Rattle.instructions.specs.Board.{documentBoard, modulus};
 ghost use Rattle.instructions.specs.Fields as f;
 
 // Both tests hold.
@@ -26,16 +27,6 @@ pub fn either(a: bool, b: bool) -> bool
     b
 }
 
-// x where the test holds, y where it does not.
-pub fn choose(t: bool, x: u64, y: u64) -> u64
-    ensures { λ r. ⌜ r ≡ if t x y ⌝ }
-{
-    if t {
-        return x;
-    }
-    y
-}
-
 // The opcode.
 pub fn opcode(w: u64) -> u64
     ensures { λ r. ⌜ (r ≡ f.opcode w) × (r < 64) ⌝ }
@@ -43,23 +34,40 @@ pub fn opcode(w: u64) -> u64
     w / 67108864 % 64
 }
 
-// Registers a, b and c.
+// Register a.
 pub fn field_a(w: u64) -> usize
     ensures { λ r. ⌜ (r ≡ f.fieldA w) × (r < 32) ⌝ }
 {
     (w / 2097152 % 32) as usize
 }
 
-pub fn field_b(w: u64) -> usize
-    ensures { λ r. ⌜ (r ≡ f.fieldB w) × (r < 32) ⌝ }
+// The words in registers a, b and c.
+pub fn word_a(r: &[u64; 32], w: u64) -> u64
+    ensures { λ x. ⌜ x ≡ getD (now (r .entry)) (f.fieldA w) 0 ⌝ }
 {
-    (w / 65536 % 32) as usize
+    let n = field_a(w);
+    r[n]
 }
 
-pub fn field_c(w: u64) -> usize
-    ensures { λ r. ⌜ (r ≡ f.fieldC w) × (r < 32) ⌝ }
+pub fn word_b(r: &[u64; 32], w: u64) -> u64
+    ensures { λ x. ⌜ x ≡ getD (now (r .entry)) (f.fieldB w) 0 ⌝ }
 {
-    (w / 2048 % 32) as usize
+    let n = (w / 65536 % 32) as usize;
+    r[n]
+}
+
+pub fn word_c(r: &[u64; 32], w: u64) -> u64
+    ensures { λ x. ⌜ x ≡ getD (now (r .entry)) (f.fieldC w) 0 ⌝ }
+{
+    let n = (w / 2048 % 32) as usize;
+    r[n]
+}
+
+// sel.
+pub fn sel(w: u64) -> u64
+    ensures { λ r. ⌜ r ≡ f.sel w ⌝ }
+{
+    w % 8
 }
 
 // imm, signed, as a word.
@@ -73,9 +81,22 @@ pub fn imm(w: u64) -> u64
     x
 }
 
-// x - y, modulo 2^64.
+// x + y and x - y, as words.
+pub fn plus(x: u64, y: u64) -> u64
+    ensures { λ r. ⌜ r ≡ (x + y) % modulus documentBoard ⌝ }
+{
+    std::num::wrapping_add_u64(x, y)
+}
+
 pub fn minus(x: u64, y: u64) -> u64
-    ensures { λ r. ⌜ r ≡ (x + (18446744073709551616 - y)) % 18446744073709551616 ⌝ }
+    ensures { λ r. ⌜ r ≡ (x + (modulus documentBoard - y)) % modulus documentBoard ⌝ }
 {
     std::num::wrapping_sub_u64(x, y)
+}
+
+// The leading zeros of a word.
+pub fn leading(x: u64) -> u64
+    ensures { λ r. ⌜ r ≡ leadingZeros (8 * documentBoard .wordBytes) x ⌝ }
+{
+    u64::leading_zeros(x) as u64
 }

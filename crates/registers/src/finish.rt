@@ -5,9 +5,9 @@ use crate::record::Special;
 use crate::suspend;
 use crate::suspend::Ended;
 ghost use mathlib.Core.Path.{_≡_};
-ghost use Prim.Native.Nat.{_≤_};
 ghost use Rattle.instructions.specs.Board.{documentBoard};
 ghost use Rattle.instructions.specs.Step.{knownFault};
+ghost use Rattle.ciphers.specs.Cipher.{aesCipher};
 ghost use Rattle.registers.specs.Map.{processorOf, keyOf};
 ghost use Rattle.registers.specs.Effects.{Finishes};
 
@@ -21,8 +21,11 @@ pub fn finish(
     failed: bool,
     loaded: u64,
 ) -> Ended
-    requires { ⌜ known ≡ knownFault documentBoard m (processorOf (now r) q) (record { failed = fetched; number = w }) ⌝ }
-    ensures { λ x. ⌜ Finishes m (keyOf q) (processorOf (now (r .entry)) q) (record { failed = fetched; number = w }) (record { failed = failed; number = loaded }) (x .fault) (now (r .exit)) (x .special) ⌝ }
+    requires { ⌜ known ≡ knownFault documentBoard m (processorOf (now r) q)
+        (record { failed = fetched; number = w }) ⌝ }
+    ensures { λ x. ⌜ Finishes documentBoard aesCipher m (keyOf q) (processorOf (now (r .entry)) q)
+        (record { failed = fetched; number = w }) (record { failed = failed; number = loaded })
+        (x .fault) (now (r .exit)) (x .special) ⌝ }
 {
     if known != 0 {
         let x = suspend::enter(r, q, known);

@@ -5,4 +5,5 @@ pub mod faults;
 pub mod fields;
 pub mod finish;
 pub mod record;
+pub mod special;
 pub mod suspend;

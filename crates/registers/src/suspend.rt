@@ -24,7 +24,8 @@ fn replace(r: &mut [u64; 32], x: [u64; 32])
 
 // A fault or an interrupt: an active thread is suspended; then EPC = pc, cause = number, pc = 64.
 pub fn enter(r: &mut [u64; 32], q: Special, n: u64) -> Special
-    ensures { λ x. ⌜ Holds (s.entered documentBoard aesCipher (keyOf q) n (processorOf (now (r .entry)) q)) (keyOf q) (now (r .exit)) x ⌝ }
+    ensures { λ x. ⌜ Holds (s.entered documentBoard aesCipher (keyOf q) n (processorOf (now (r .entry)) q))
+        (keyOf q) (now (r .exit)) x ⌝ }
 {
     let mut x = q;
     x.epc = q.pc;
@@ -34,8 +35,8 @@ pub fn enter(r: &mut [u64; 32], q: Special, n: u64) -> Special
         return x;
     }
     let old = *r;
-    let h = sealing::registers::hash(q.drkhi, q.drklo, old);
-    let new = sealing::registers::hide(q.drkhi, q.drklo, &h, old);
+    let h = hiding::hash(q.drkhi, q.drklo, old);
+    let new = hiding::hide(q.drkhi, q.drklo, &h, old);
     replace(r, new);
     x.hash = h;
     x.address = q.pc;
@@ -61,12 +62,13 @@ fn resuming(r: &[u64; 32], q: Special) -> bool
 // A resume: the registers are brought back, if their hash is right, with mode 1; pc = EPC.
 fn resume(r: &mut [u64; 32], q: Special) -> Ended
     requires { ⌜ true ≡ s.resumes (processorOf (now r) q) ⌝ }
-    ensures { λ x. ⌜ Returns (keyOf q) (processorOf (now (r .entry)) q) (x .fault) (now (r .exit)) (x .special) ⌝ }
+    ensures { λ x. ⌜ Returns documentBoard aesCipher (keyOf q) (processorOf (now (r .entry)) q)
+        (x .fault) (now (r .exit)) (x .special) ⌝ }
 {
     let h = q.hash;
     let old = *r;
-    let back = sealing::registers::hide(q.drkhi, q.drklo, &h, old);
-    let again = sealing::registers::hash(q.drkhi, q.drklo, back);
+    let back = hiding::hide(q.drkhi, q.drklo, &h, old);
+    let again = hiding::hash(q.drkhi, q.drklo, back);
     if sealing::same(&again, &h) {
         let mut x = q;
         x.pc = q.epc;
@@ -86,7 +88,8 @@ fn resume(r: &mut [u64; 32], q: Special) -> Ended
 
 // rfi: a resume, or a jump to EPC.
 pub fn rfi(r: &mut [u64; 32], q: Special) -> Ended
-    ensures { λ x. ⌜ Returns (keyOf q) (processorOf (now (r .entry)) q) (x .fault) (now (r .exit)) (x .special) ⌝ }
+    ensures { λ x. ⌜ Returns documentBoard aesCipher (keyOf q) (processorOf (now (r .entry)) q)
+        (x .fault) (now (r .exit)) (x .special) ⌝ }
 {
     if resuming(r, q) {
         return resume(r, q);

@@ -1,4 +1,3 @@
 -- The laws of `sealing`, file by file.
-pub mod TextLaws
-pub mod Ways
-pub mod RegisterLaws
+pub mod LineLaws
+pub mod StreamLaws

@@ -1,11 +1,12 @@
--- The line key, the MACs of lines, and sealed data lines (document 01, 'Protected lines'); a DRK is a list of sixteen bytes, the highest first.
+-- The line key, the MACs of lines, and sealed data lines (document 01, 'Protected lines'); a DRK is a list of sixteen
+-- bytes, the highest first.
 use mathlib.Core.List.{List, [], _∷_, _++_}
 use Prim.Native.Nat.{ℕ}
 use Rattle.lists.specs.Bytes.{zeros}
 use Rattle.lists.specs.Words.{bigBytes}
-use Rattle.aes.specs.Schedule.{keyExpansion}
-use Rattle.aes.specs.Cipher.{cipher}
-use Rattle.aes.specs.Chain.{cbcEncrypt, cbcDecrypt}
+use Rattle.aes_standard.specs.Schedule.{keyExpansion}
+use Rattle.aes_standard.specs.Cipher.{cipher}
+use Rattle.aes_standard.specs.Chain.{cbcEncrypt, cbcDecrypt}
 use Rattle.cmac.specs.Cmac.{cmac}
 
 -- A DRK of two words, the high one first.

@@ -1,36 +1,32 @@
-// Protected lines: their MACs, sealed data lines, and the hash and key stream of Suspend; a DRK is lent as two words, the high one first.
-pub mod registers;
-mod text;
-
+// Protected lines: their MACs and sealed data lines; a DRK is two words, the high one first.
 ghost use mathlib.Core.Path.{_≡_};
 ghost use mathlib.Core.List.{_++_};
 ghost use lib.ListN.{length};
 ghost use Rattle.lists.specs.Bytes.{same};
 ghost use Rattle.lists.specs.Words.{bigBytes};
-ghost use Rattle.aes.specs.Schedule.{keyExpansion};
-ghost use Rattle.aes.specs.Cipher.{cipher};
+ghost use Rattle.aes_standard.specs.Cipher.{cipher};
 ghost use Rattle.sealing.specs.Lines.{drkOf, macOf, lineKey, codeMac, dataMac, enciphered, deciphered};
 
-// The words under which a DRK signs.
-pub(crate) fn signing_words(hi: u64, lo: u64) -> [u32; 44]
-    ensures { λ r. ⌜ r ≡ keyExpansion (drkOf hi lo) ⌝ }
+// CMAC of any bytes under a DRK.
+pub fn mac_of(hi: u64, lo: u64, m: &[u8]) -> [u8; 16]
+    ensures { λ r. ⌜ r ≡ macOf (drkOf hi lo) (now (m .entry)) ⌝ }
 {
-    aes::expand(&text::pair(hi, lo))
+    cmac::sign(&aes::expand(&texts::pair(hi, lo)), m)
 }
 
 // The line key of a DRK.
-pub(crate) fn line_key(hi: u64, lo: u64) -> [u8; 16]
+pub fn line_key(hi: u64, lo: u64) -> [u8; 16]
     ensures { λ r. ⌜ r ≡ lineKey (drkOf hi lo) ⌝ }
 {
     let m = [1u8; 1];
-    cmac::sign(&signing_words(hi, lo), &m)
+    mac_of(hi, lo, &m)
 }
 
 // The initialization vector of the line at an address, under the words of its line key.
 fn start_vector(w: &[u32; 44], address: u64) -> [u8; 16]
     ensures { λ r. ⌜ r ≡ cipher (now (w .entry)) (drkOf 0 address) ⌝ }
 {
-    aes::encipher(w, &text::pair(0, address))
+    aes::encipher(w, &texts::pair(0, address))
 }
 
 // The MAC of the 48 code bytes of the line at an address.
@@ -39,8 +35,8 @@ pub fn code_mac(hi: u64, lo: u64, address: u64, code: &[u8]) -> [u8; 16]
     ensures { λ r. ⌜ r ≡ codeMac (drkOf hi lo) address (now (code .entry)) ⌝ }
 {
     let mut m = [0u8; 57];
-    text::signed_text(2, address, code, &mut m);
-    cmac::sign(&signing_words(hi, lo), &m)
+    texts::signed_text(2, address, code, &mut m);
+    mac_of(hi, lo, &m)
 }
 
 // The MAC of the 64 encrypted bytes of the data line at an address.
@@ -49,8 +45,8 @@ pub fn data_mac(hi: u64, lo: u64, address: u64, line: &[u8]) -> [u8; 16]
     ensures { λ r. ⌜ r ≡ dataMac (drkOf hi lo) address (now (line .entry)) ⌝ }
 {
     let mut m = [0u8; 73];
-    text::signed_text(3, address, line, &mut m);
-    cmac::sign(&signing_words(hi, lo), &m)
+    texts::signed_text(3, address, line, &mut m);
+    mac_of(hi, lo, &m)
 }
 
 // Seals the data line at an address, in place.
@@ -59,7 +55,7 @@ pub fn seal(hi: u64, lo: u64, address: u64, line: &mut [u8])
 {
     let w = aes::expand(&line_key(hi, lo));
     let iv = start_vector(&w, address);
-    aes::chain::encrypt(&w, &iv, line);
+    chain::encrypt(&w, &iv, line);
 }
 
 // Opens the sealed data line at an address, in place.
@@ -68,7 +64,7 @@ pub fn unseal(hi: u64, lo: u64, address: u64, line: &mut [u8])
 {
     let key = line_key(hi, lo);
     let iv = start_vector(&aes::expand(&key), address);
-    aes::chain::decrypt(&key, &iv, line);
+    chain::decrypt(&key, &iv, line);
 }
 
 // Are the two rows of bytes the same?
@@ -82,6 +78,6 @@ pub fn same(a: &[u8], b: &[u8]) -> bool
 pub fn derive(hi: u64, lo: u64, a: u64, b: u64) -> [u8; 16]
     ensures { λ r. ⌜ r ≡ macOf (drkOf hi lo) (bigBytes 8 a ++ bigBytes 8 b) ⌝ }
 {
-    let m = text::pair(a, b);
-    cmac::sign(&signing_words(hi, lo), &m)
+    let m = texts::pair(a, b);
+    mac_of(hi, lo, &m)
 }

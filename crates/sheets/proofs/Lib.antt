@@ -1,5 +1,5 @@
 -- The laws of `sheets`, file by file.
 pub mod Notes
-pub mod Numbers
+pub mod CopiedNumbers
 pub mod Starting
 pub mod Saying

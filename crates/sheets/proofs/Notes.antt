@@ -1,14 +1,12 @@
 -- The figures by kind of line add up to the four counts, note by note.
-use mathlib.Core.Path.{_≡_, refl, sym, ap, ap₂, _∙_}
+use mathlib.Core.Path.{_≡_, refl, ap}
 use mathlib.Core.Bool.{Bool, true, false}
 use mathlib.Core.List.{List, [], _∷_}
 use Prim.Native.Nat.{ℕ, _+_, _≤_}
 use native.Mathlib.Omega.{arith}
 use Rattle.lists.specs.If.{if}
-use Rattle.model.specs.Tags.{Tag, isData, isChecked}
+use Rattle.model.specs.Tags.{isData, isChecked}
 use Rattle.model.specs.Log.{Note, Counts, noCounts, plus, countsOfNote, countsOf}
-use Rattle.sheets.specs.declared.sheet.Kinds.{Kinds}
-use Rattle.sheets.specs.Figures.{KindsOf}
 use Rattle.sheets.specs.Says.{sumOver, ordinaryFill, protectedFill, ordinaryWrite, protectedWrite}
 
 -- what the sums by kind make of the counts

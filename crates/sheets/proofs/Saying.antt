@@ -1,22 +1,22 @@
 -- A sheet that was filled in from what a run reported and left says what that run did.
-use mathlib.Core.Path.{_≡_, refl, sym, ap, _∙_}
+use mathlib.Core.Path.{_≡_, sym, ap, _∙_}
 use mathlib.Core.Bool.{Bool}
-use mathlib.Core.List.{List, []}
-use Prim.Native.Nat.{ℕ, _+_, _≤_}
+use mathlib.Core.List.{List}
+use Prim.Native.Nat.{ℕ, _≤_}
 use native.Mathlib.Omega.{arith}
 use lib.ListN.{getD}
-use Rattle.model.specs.Log.{Note, Counts, countsOf}
+use Rattle.model.specs.Log.{Counts, countsOf}
 use Rattle.model.specs.Cached.{Cached}
 use Rattle.instructions.specs.Calls.{Machine, Result, counts}
 use Rattle.cache.specs.Lent.{countsIn}
-use Rattle.host.specs.declared.answer.Report.{Report}
+use Rattle.machine.specs.declared.answer.Report.{Report}
 use Rattle.host.specs.Outcome.{Gives}
 use Rattle.sheets.specs.declared.sheet.Sheet.{Sheet}
-use Rattle.sheets.specs.Figures.{SameNumbers, FilledIn}
-use Rattle.sheets.specs.Says.{sumOver, ordinaryFill, protectedFill, ordinaryWrite, protectedWrite, Says}
+use Rattle.sheets.specs.Figures.{FilledIn}
+use Rattle.sheets.specs.Says.{sumOver, protectedFill, protectedWrite, Says}
 use Rattle.sheets.proofs.Notes.{adds, within}
 
-module _ {x : Result Cached} {r : Report} {buffer : List ℕ} {m : Machine Cached} (g : Gives x (r .answer) (r .steps) (countsIn (r .counts)) buffer m) where
+module _ {x : Result Cached} {r : Report} {buffer : List ℕ} {m : Machine Cached} (g : Gives x r buffer m) where
   -- what a sheet asks of the counts
   pub orderly-counts : (r .counts .checked ≤ r .counts .filled) × (r .counts .made ≤ r .counts .written)
   unfolding counts
@@ -31,8 +31,10 @@ module _ {x : Result Cached} {r : Report} {buffer : List ℕ} {m : Machine Cache
       let written : r .counts .written ≡ countsOf (x .log) .written = ap (λ (c : Counts). c .written) (g .counted) in
       let checked : r .counts .checked ≡ countsOf (x .log) .checked = ap (λ (c : Counts). c .checked) (g .counted) in
       let made : r .counts .made ≡ countsOf (x .log) .made = ap (λ (c : Counts). c .made) (g .counted) in
-      let fills : s .kinds .protectedfilled ≡ sumOver protectedFill (x .log) = k .checkedOnes ∙ checked ∙ sym (a .checked) in
-      let writes : s .kinds .protectedwritten ≡ sumOver protectedWrite (x .log) = k .signedOnes ∙ made ∙ sym (a .made) in
+      let fills : s .kinds .protectedfilled ≡ sumOver protectedFill (x .log) = k .checkedOnes ∙ checked
+      ∙ sym (a .checked) in
+      let writes : s .kinds .protectedwritten ≡ sumOver protectedWrite (x .log) = k .signedOnes ∙ made
+      ∙ sym (a .made) in
       record {
         kind = f .kind;
         answer = ap (λ (y : Report). y .answer) (f .report) ∙ g .answered;
@@ -42,5 +44,8 @@ module _ {x : Result Cached} {r : Report} {buffer : List ℕ} {m : Machine Cache
         protectedFilled = fills;
         ordinaryWritten = omega (arith, k .allWritten, written, a .written, writes);
         protectedWritten = writes;
-        slots = record { each = λ i h. f .slots .each i h ∙ ap (λ (y : Machine Cached). getD (y .memory .dir) i 0) (g .left) };
+        slots = record {
+          each = λ i h. f .slots .each i h ∙ ap (λ (y : Machine Cached). getD (y .memory .dir) i 0)
+              (g .left);
+        };
       }

@@ -8,13 +8,13 @@ use Rattle.lists.proofs.Cases.{by-test}
 use Rattle.model.specs.Cached.{Cached, cached, losePlace, loseFrom, loseAll}
 use Rattle.directory.specs.Direct.{direct}
 use Rattle.instructions.specs.Board.{documentBoard}
-use Rattle.instructions.specs.Calls.{Call, run, powerCut, Machine, Result, cachedSetup, refusal, refused, changed, accepted, called}
+use Rattle.instructions.specs.Calls.{run, powerCut, Machine, cachedSetup, refusal, refused, changed, accepted, called}
 use Rattle.ciphers.specs.Cipher.{aesCipher}
 use Rattle.registers.specs.declared.record.Processor as code
-use Rattle.cache.specs.Lent.{countsIn}
-use Rattle.host.specs.declared.answer.Report.{Report}
-use Rattle.host.specs.Outcome.{machineOf, resultOf, Gives, Leaves}
-use Rattle.sheets.specs.Runs.{emptied, coldRun, again, warmRun, againOf}
+use Rattle.machine.specs.declared.answer.Report.{Report}
+use Rattle.machine.specs.Lent.{Lent, machineIn}
+use Rattle.host.specs.Outcome.{resultOf, Gives, Leaves}
+use Rattle.sheets.specs.Runs.{emptied, coldRun, again, warmRun, StartsAgain}
 
 -- a power cut keeps the DRK
 lose-key : (k p : ℕ) (s : Cached) → loseFrom direct k p s .key ≡ s .key
@@ -24,31 +24,46 @@ lose-key (suc k) p s = lose-key k (p + 1) (losePlace direct p s)
 
 key-kept : (m : Machine Cached) → resultOf powerCut m .machine .memory .key ≡ m .memory .key
 unfolding resultOf called accepted refused changed cachedSetup cached documentBoard loseAll
-key-kept m = by-test (eqb (refusal (cachedSetup documentBoard aesCipher) powerCut m) 0) (λ t. rw t (lose-key (length (m .memory .dir)) 0 (m .memory))) (λ f. rw f)
+key-kept m = by-test (eqb (refusal (cachedSetup documentBoard aesCipher) powerCut m) 0)
+    (λ t. rw t (lose-key (length (m .memory .dir)) 0 (m .memory))) (λ f. rw f)
 
-module _ (p p₁ : code.Processor) (mem macs cache dir mem₁ macs₁ cache₁ dir₁ : List ℕ) (x₁ : Report) where
-  -- behind a power cut, with the record as it was given, stands the emptied machine
-  cut-empties : Leaves powerCut p mem macs cache dir p₁ x₁ [] mem₁ macs₁ cache₁ dir₁ → machineOf p mem₁ macs₁ cache₁ dir₁ ≡ emptied (machineOf p mem macs cache dir)
-  unfolding Leaves emptied
-  cut-empties cut =
-      let m = machineOf p mem macs cache dir in
-      let left = cut .left in
-      ap (λ (key : List ℕ). record { processor = m .processor; memory = record { key = key; mem = mem₁; macs = macs₁; cache = cache₁; dir = dir₁ } })
-      (sym (ap (λ (x : Machine Cached). x .memory .key) left ∙ key-kept m))
-      ∙ ap (λ (x : Machine Cached). record { processor = m .processor; memory = x .memory }) left
+-- the four buffers of something lent, beside another record
+abbrev under : code.Processor → Lent → Lent
+under p l = record { processor = p; mem = l .mem; macs = l .macs; cache = l .cache; dir = l .dir }
 
-  module _ (n : ℕ) (p₂ : code.Processor) (mem₂ macs₂ cache₂ dir₂ : List ℕ) (x₂ : Report) where
-    -- and a run from there is the cold run
-    pub cold-gives : Leaves powerCut p mem macs cache dir p₁ x₁ [] mem₁ macs₁ cache₁ dir₁ → Leaves (run n) p mem₁ macs₁ cache₁ dir₁ p₂ x₂ [] mem₂ macs₂ cache₂ dir₂
-        → Gives (coldRun n (machineOf p mem macs cache dir)) (x₂ .answer) (x₂ .steps) (countsIn (x₂ .counts)) [] (machineOf p₂ mem₂ macs₂ cache₂ dir₂)
-    unfolding Leaves coldRun
-    cold-gives cut first = rw (← cut-empties cut) first
+-- behind a power cut, with the record as it was given, stands the emptied machine
+cut-empties : (l l₁ : Lent) (x : Report) → Leaves powerCut l x [] l₁ → machineIn (under (l .processor) l₁)
+    ≡ emptied (machineIn l)
+unfolding Leaves emptied
+cut-empties l l₁ x cut =
+    let m = machineIn l in
+    ap (λ (key : List ℕ). record {
+      processor = m .processor;
+      memory = record {
+        key = key;
+        mem = l₁ .mem;
+        macs = l₁ .macs;
+        cache = l₁ .cache;
+        dir = l₁ .dir;
+      };
+    })
+    (sym (ap (λ (y : Machine Cached). y .memory .key) (cut .left) ∙ key-kept m))
+    ∙ ap (λ (y : Machine Cached). record { processor = m .processor; memory = y .memory }) (cut .left)
+
+-- and a run from there is the cold run
+pub cold-gives : (n : ℕ) (l l₁ l₂ : Lent) (x₁ x₂ : Report) → Leaves powerCut l x₁ [] l₁
+    → Leaves (run n) (under (l .processor) l₁) x₂ [] l₂
+    → Gives (coldRun n (machineIn l)) x₂ [] (machineIn l₂)
+unfolding Leaves coldRun
+cold-gives n l l₁ l₂ x₁ x₂ cut first = rw (← cut-empties l l₁ x₁ cut) first
 
 -- a run from the same record again, behind the cold run, is the warm run
-pub warm-gives : (n : ℕ) (p left start p₂ : code.Processor) (mem macs cache dir mem₁ macs₁ cache₁ dir₁ mem₂ macs₂ cache₂ dir₂ : List ℕ) (x : Report)
-    → machineOf left mem₁ macs₁ cache₁ dir₁ ≡ coldRun n (machineOf p mem macs cache dir) .machine → start ≡ againOf p left
-    → Leaves (run n) start mem₁ macs₁ cache₁ dir₁ p₂ x [] mem₂ macs₂ cache₂ dir₂
-    → Gives (warmRun n (machineOf p mem macs cache dir)) (x .answer) (x .steps) (countsIn (x .counts)) [] (machineOf p₂ mem₂ macs₂ cache₂ dir₂)
+pub warm-gives : (n : ℕ) (l : Lent) (left : code.Processor) {start : code.Processor} {mem macs cache dir : List ℕ}
+    (l₂ : Lent) {x : Report}
+    → machineIn (record { processor = left; mem = mem; macs = macs; cache = cache; dir = dir })
+    ≡ coldRun n (machineIn l) .machine
+    → StartsAgain (l .processor) left start
+    → Leaves (run n) (record { processor = start; mem = mem; macs = macs; cache = cache; dir = dir }) x [] l₂
+    → Gives (warmRun n (machineIn l)) x [] (machineIn l₂)
 unfolding Leaves warmRun again
-warm-gives n p left start p₂ mem macs cache dir mem₁ macs₁ cache₁ dir₁ mem₂ macs₂ cache₂ dir₂ x cold start-is second =
-    rw (← cold) (rw start-is at second)
+warm-gives n l left l₂ cold starts second = rw (← cold) (rw (starts .record′, starts .key′) at second)

@@ -4,7 +4,7 @@ use mathlib.Core.Path.{_≡_}
 use mathlib.Core.Bool.{Bool}
 use mathlib.Core.List.{List}
 use lib.ListN.{getD}
-use Rattle.host.specs.declared.answer.Report.{Report}
+use Rattle.machine.specs.declared.answer.Report.{Report}
 use Rattle.sheets.specs.declared.sheet.Kinds.{Kinds}
 use Rattle.sheets.specs.declared.sheet.Sheet.{Sheet}
 

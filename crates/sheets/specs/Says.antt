@@ -1,4 +1,5 @@
--- What a sheet says of a run: its kind, the answer, the steps, the four counts, the same by kind of line, and the slots behind it.
+-- What a sheet says of a run: its kind, the answer, the steps, the four counts, the same by kind of line, and the
+-- slots behind it.
 use Prim.Native.Nat.{ℕ, _+_}
 use mathlib.Core.Path.{_≡_}
 use mathlib.Core.Bool.{Bool}

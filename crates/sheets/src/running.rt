@@ -1,18 +1,18 @@
 // The cold run, the warm run behind it, and their two sheets.
 use crate::sheet;
 use crate::sheet::Sheet;
-use host::answer::Answer;
 use host::restarts;
 use host::running as calls;
+use machine::answer::Answer;
+use registers::record;
 use registers::record::Processor;
-use registers::record::Special;
 ghost use mathlib.Core.Path.{_≡_};
 ghost use mathlib.Core.List.{[]};
 ghost use mathlib.Core.Bool.{true, false};
-ghost use Rattle.cache.specs.Lent.{countsIn};
-ghost use Rattle.host.specs.Outcome.{machineOf, resultOf, Gives};
+ghost use Rattle.machine.specs.Lent.{machineIn, before, after};
+ghost use Rattle.host.specs.Outcome.{resultOf, Gives};
 ghost use Rattle.instructions.specs.Calls.{run};
-ghost use Rattle.sheets.specs.Runs.{coldRun, warmRun, againOf};
+ghost use Rattle.sheets.specs.Runs.{coldRun, warmRun, StartsAgain};
 ghost use Rattle.sheets.specs.Says.{Says};
 
 // Both sheets, and the record that the warm run left.
@@ -37,7 +37,8 @@ fn cold(
     dir: &mut [u32],
     n: u64,
 ) -> Answer
-    ensures { λ a. ⌜ Gives (coldRun n (machineOf p (now (mem .entry)) (now (macs .entry)) (now (cache .entry)) (now (dir .entry)))) (a .report .answer) (a .report .steps) (countsIn (a .report .counts)) [] (machineOf (a .processor) (now (mem .exit)) (now (macs .exit)) (now (cache .exit)) (now (dir .exit))) ⌝ }
+    ensures { λ a. ⌜ Gives (coldRun n (machineIn (before p mem macs cache dir))) (a .report) []
+        (machineIn (after (a .processor) mem macs cache dir)) ⌝ }
 {
     restarts::power_cut(p, mem, macs, cache, dir);
     calls::run(p, mem, macs, cache, dir, n)
@@ -45,38 +46,9 @@ fn cold(
 
 // The record to start from again, with DRK and SRH as the run before left them.
 pub fn again(p: Processor, left: Processor) -> Processor
-    ensures { λ r. ⌜ r ≡ againOf p left ⌝ }
+    ensures { λ r. ⌜ StartsAgain p left r ⌝ }
 {
-    let r = p.r;
-    let q = p.special;
-    let s = left.special;
-    let hash = q.hash;
-    Processor {
-        r,
-        special: Special {
-            pc: q.pc,
-            epc: q.epc,
-            cause: q.cause,
-            drkhi: s.drkhi,
-            drklo: s.drklo,
-            srh0: s.srh0,
-            srh1: s.srh1,
-            srh2: s.srh2,
-            srh3: s.srh3,
-            word0: q.word0,
-            word1: q.word1,
-            word2: q.word2,
-            word3: q.word3,
-            hash,
-            address: q.address,
-            pid: q.pid,
-            savedpid: q.savedpid,
-            cid: q.cid,
-            savedcid: q.savedcid,
-            mode: q.mode,
-            lock: q.lock,
-        },
-    }
+    record::keeping(left, p)
 }
 
 // A run of n instructions from an empty cache, the same run again with the cache as it was left, and their sheets.
@@ -88,9 +60,10 @@ pub fn both(
     dir: &mut [u32],
     n: u64,
 ) -> Sheets
-    ensures { λ r. ⌜ Says false (coldRun n (machineOf p (now (mem .entry)) (now (macs .entry)) (now (cache .entry)) (now (dir .entry)))) (r .cold) ⌝ }
-    ensures { λ r. ⌜ Says true (warmRun n (machineOf p (now (mem .entry)) (now (macs .entry)) (now (cache .entry)) (now (dir .entry)))) (r .warm) ⌝ }
-    ensures { λ r. ⌜ machineOf (r .processor) (now (mem .exit)) (now (macs .exit)) (now (cache .exit)) (now (dir .exit)) ≡ warmRun n (machineOf p (now (mem .entry)) (now (macs .entry)) (now (cache .entry)) (now (dir .entry))) .machine ⌝ }
+    ensures { λ r. ⌜ Says false (coldRun n (machineIn (before p mem macs cache dir))) (r .cold) ⌝ }
+    ensures { λ r. ⌜ Says true (warmRun n (machineIn (before p mem macs cache dir))) (r .warm) ⌝ }
+    ensures { λ r. ⌜ machineIn (after (r .processor) mem macs cache dir)
+        ≡ warmRun n (machineIn (before p mem macs cache dir)) .machine ⌝ }
 {
     let first = cold(p, mem, macs, cache, dir, n);
     let one = first.report;
@@ -116,8 +89,9 @@ pub fn once_more(
     dir: &mut [u32],
     n: u64,
 ) -> Kept
-    ensures { λ r. ⌜ Says true (resultOf (run n) (machineOf p (now (mem .entry)) (now (macs .entry)) (now (cache .entry)) (now (dir .entry)))) (r .sheet) ⌝ }
-    ensures { λ r. ⌜ machineOf (r .processor) (now (mem .exit)) (now (macs .exit)) (now (cache .exit)) (now (dir .exit)) ≡ resultOf (run n) (machineOf p (now (mem .entry)) (now (macs .entry)) (now (cache .entry)) (now (dir .entry))) .machine ⌝ }
+    ensures { λ r. ⌜ Says true (resultOf (run n) (machineIn (before p mem macs cache dir))) (r .sheet) ⌝ }
+    ensures { λ r. ⌜ machineIn (after (r .processor) mem macs cache dir)
+        ≡ resultOf (run n) (machineIn (before p mem macs cache dir)) .machine ⌝ }
 {
     let x = calls::run(p, mem, macs, cache, dir, n);
     let report = x.report;

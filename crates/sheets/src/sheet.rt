@@ -1,5 +1,6 @@
-// One sheet: whether it is the cold or the warm one, what the run reported, the figures by kind of line, and the slots behind the run.
-use host::answer::Report;
+// One sheet: whether it is the cold or the warm one, what the run reported, the figures by kind of line, and the
+// slots behind the run.
+use machine::answer::Report;
 ghost use mathlib.Core.Path.{_≡_};
 ghost use Prim.Native.Nat.{_≤_};
 ghost use lib.ListN.{getD};

@@ -14,7 +14,8 @@ unfolding documentBoard direct-laws
 document-laws =
     record {
       placement = direct-laws;
-      passed = λ N dir s l h. scan-orderly N dir (leb-true 1 (length dir) (both-hold (leb 1 (length dir)) (leb (length dir) 64) s .0)) l h;
+      passed = λ N dir s l h. scan-orderly N dir
+          (leb-true 1 (length dir) (both-hold (leb 1 (length dir)) (leb (length dir) 64) s .0)) l h;
       passes = λ N dir o. orderly-scan N dir o;
       words = 8;
       wholeWords = refl;

@@ -14,7 +14,7 @@ use Rattle.instructions.specs.Rules.{firstOf}
 use Rattle.instructions.specs.Board.{Board}
 use Rattle.instructions.specs.Refusals.{sizeFine, memoryFlaws, cacheFlaws, cachedFlaws}
 use Rattle.sound.specs.BoardLaws.{BoardLaws}
-use Rattle.sound.proofs.Programs.{none-first}
+use Rattle.instructions.proofs.RuleLaws.{firstOf-none}
 
 module _ (B : Board) (BL : BoardLaws B) where
   -- what was lent: its size is one of document 01's, its slots are right in number, and it is good
@@ -32,10 +32,12 @@ module _ (B : Board) (BL : BoardLaws B) where
       let g = eqb (length (s .cache)) (length (s .dir) * 64) in
       let d = B .directoryFine N (s .dir) in
       let m = eqb (length (s .macs)) (M / 4) in
-      let z1 = none-first (not (sizeFine M)) 101 (firstOf ((not m, 102) ∷ (not (f && g), 103) ∷ (not d, 104) ∷ [])) (λ q. omega arith) z in
-      let z2 = none-first (not m) 102 (firstOf ((not (f && g), 103) ∷ (not d, 104) ∷ [])) (λ q. omega arith) (z1 .1) in
-      let z3 = none-first (not (f && g)) 103 (firstOf ((not d, 104) ∷ [])) (λ q. omega arith) (z2 .1) in
-      let z4 = none-first (not d) 104 0 (λ q. omega arith) (z3 .1) in
+      let z1 = firstOf-none (not (sizeFine M)) 101 (firstOf ((not m, 102) ∷ (not (f && g), 103) ∷ (not d, 104) ∷ []))
+      (λ q. omega arith) z in
+      let z2 = firstOf-none (not m) 102 (firstOf ((not (f && g), 103) ∷ (not d, 104) ∷ [])) (λ q. omega arith)
+      (z1 .1) in
+      let z3 = firstOf-none (not (f && g)) 103 (firstOf ((not d, 104) ∷ [])) (λ q. omega arith) (z2 .1) in
+      let z4 = firstOf-none (not d) 104 0 (λ q. omega arith) (z3 .1) in
       let size : sizeFine M ≡ true = not-false (sizeFine M) (z1 .0) in
       let s1 = both-hold (eqb (M % 64) 0) (leb 128 M && leb M 65536) size in
       let s2 = both-hold (leb 128 M) (leb M 65536) (s1 .1) in
@@ -56,9 +58,23 @@ module _ (B : Board) (BL : BoardLaws B) where
             };
       }
 
-  pub good-lent : (N C : ℕ) (s : Cached) → sizeFine (N * 64) ≡ true → B .slotsFine C ≡ true → Good (B .placement) (BL .placement) N C s → firstOf (cachedFlaws B s) ≡ 0
+  pub good-lent : (N C : ℕ) (s : Cached) → sizeFine (N * 64) ≡ true → B .slotsFine C ≡ true
+      → Good (B .placement) (BL .placement) N C s → firstOf (cachedFlaws B s) ≡ 0
   unfolding cachedFlaws memoryFlaws cacheFlaws
   good-lent N C s z f G =
       let n : N * 64 / 64 ≡ N = omega arith in
       let q : N * 64 / 4 ≡ N * 16 = omega arith in
-      rw (G .mem, G .macs, z, q, n, eq-eqb (N * 16) (N * 16) refl, G .cache, eq-eqb (length (s .dir) * 64) (length (s .dir) * 64) refl, BL .passes N (s .dir) (G .orderly), G .places, f)
+      rw (
+        G .mem,
+        G .macs,
+        z,
+        q,
+        n,
+        eq-eqb (N * 16) (N * 16) refl,
+        G .cache,
+        eq-eqb (length (s .dir) * 64)
+            (length (s .dir) * 64) refl,
+        BL .passes N (s .dir) (G .orderly),
+        G .places,
+        f,
+      )

@@ -1,9 +1,11 @@
--- Every instruction's program is sound: its requests name lines of memory, keep lines lines and change no signed code. No hypothesis on the program in memory.
+-- Every instruction's program is sound: its requests name lines of memory, keep lines lines and change no signed
+-- code. No hypothesis on the program in memory.
 use Prim.Native.Nat.{ℕ, zero, suc, _+_, _*_, _/_, _%_, _<_, _≤_}
-use native.Mathlib.Nat.{mod-add-div', mul-assoc, add-mul-mod-self-right, mul-le-mul-right, suc-mul, mul-zero, lt-of-mul-lt-mul-right}
+use native.Mathlib.Nat.{mod-add-div', mul-assoc, add-mul-mod-self-right, mul-le-mul-right, suc-mul, mul-zero}
+use native.Mathlib.Nat.{lt-of-mul-lt-mul-right}
 use native.Mathlib.Omega.{arith}
 use mathlib.Core.Path.{_≡_, refl, sym, ap, _∙_, subst}
-use mathlib.Core.Bool.{Bool, true, false, not, _&&_, _||_, false≢true}
+use mathlib.Core.Bool.{Bool, true, false, not, _&&_, false≢true}
 use mathlib.Core.List.{List, [], _∷_}
 use lib.ListN.{length-append}
 use lib.Dec.{eqb, leb, ltb}
@@ -19,17 +21,20 @@ use Rattle.model.specs.Cipher.{Cipher}
 use Rattle.model.specs.CipherLaws.{Sized}
 use Rattle.model.specs.Requests.{Prog, ret, ask, andThen}
 use Rattle.keeps.specs.Sound.{fair-access, fair-rekey, Sound, sound-ret, sound-ask}
-use Rattle.instructions.specs.Rules.{firstOf}
+use Rattle.instructions.specs.Rules.{firstOf, oneOf}
 use Rattle.instructions.specs.Board.{Board}
 use Rattle.instructions.specs.Record.{Processor, active}
-use Rattle.instructions.specs.Fields.{opcode, exists, needsActive}
+use Rattle.instructions.specs.Fields.{opcode}
 use Rattle.instructions.specs.Operations.{Ra, Rb, address, keyFrom}
-use Rattle.instructions.specs.Faults.{fetchFault, decodeFault, hasAddress, selListed}
+use Rattle.instructions.specs.Faults.{fetchFault, threadFaults, opcodeFaults, addressFaults, decodeFault, hasAddress}
 use Rattle.instructions.specs.Wishes.{Wish, idle, word, newKey, Got, grant}
-use Rattle.instructions.specs.Step.{fetchWish, knownFault, dataWish, finished, instruction}
+use Rattle.instructions.specs.Step.{Stepped, fetchOf, fetchWish, knownFault, wishes, wishFor, dataWish, finished}
+use Rattle.instructions.specs.Step.{instruction}
+use Rattle.instructions.proofs.RuleLaws.{firstOf-none, firstOf-neither, pick-each}
 
 -- a program and then another are sound if both are
-pub sound-then : {A B : Type 0} (N : ℕ) (p : Prog A) (f : A → Prog B) → Sound N p → ((a : A) → Sound N (f a)) → Sound N (andThen p f)
+pub sound-then : {A B : Type 0} (N : ℕ) (p : Prog A) (f : A → Prog B) → Sound N p → ((a : A) → Sound N (f a))
+    → Sound N (andThen p f)
 unfolding andThen
 sound-then N (ret a) f sound-ret g = g a
 sound-then N (ask q k) f (sound-ask h s) g = sound-ask h (λ r. sound-then N (k r) f (s r) g)
@@ -37,7 +42,8 @@ sound-then N (ask q k) f (sound-ask h s) g = sound-ask h (λ r. sound-then N (k 
 -- what is asked of a wish
 pub data FairWish (N : ℕ) : Wish → Type 0 where
   fair-idle : FairWish N idle
-  fair-word : {tag : Tag} {a k : ℕ} {write : Bool} {v : ℕ} → a / 64 < N → a % 64 + k ≤ 64 → (write ≡ true → tag ≡ secureInstruction → ⊥) → FairWish N (word tag a k write v)
+  fair-word : {tag : Tag} {a k : ℕ} {write : Bool} {v : ℕ} → a / 64 < N → a % 64 + k ≤ 64
+      → (write ≡ true → tag ≡ secureInstruction → ⊥) → FairWish N (word tag a k write v)
   fair-newKey : {key : List ℕ} → Sized 16 key → FairWish N (newKey key)
 
 pub grant-sound : (N : ℕ) (wish : Wish) → FairWish N wish → Sound N (grant wish)
@@ -51,20 +57,21 @@ grant-sound N (word tag a k write v) (fair-word h o t) =
     (λ r. sound-ret)
 grant-sound N (newKey key) (fair-newKey z) = sound-ask (fair-rekey z) (λ r. sound-ret)
 
--- of rules in a row, none of the first applied where the result is 0
+-- the law of rules in a row by the name that callers know
 pub none-first : (b : Bool) (n rest : ℕ) → (n ≡ 0 → ⊥) → if b n rest ≡ 0 → (b ≡ false) × (rest ≡ 0)
-none-first true n rest d e = absurd (d e)
-none-first false n rest d e = (refl, e)
+none-first = firstOf-none
 
 -- the fetch is fair: a pc without fault lies in memory, and four bytes lie in its line
 pub fetch-fair : (N M : ℕ) (r : Processor) → M ≡ N * 64 → FairWish N (fetchWish M r)
-unfolding fetchWish fetchFault
+unfolding fetchWish fetchOf fetchFault
 fetch-fair N M r e =
     by-test (eqb (fetchFault M r) 0)
     (λ h.
     let z : fetchFault M r ≡ 0 = eqb-true (fetchFault M r) 0 h in
-    let a = none-first (not (eqb (r .pc % 4) 0)) 9 (firstOf ((leb M (r .pc), 10) ∷ (active r && leb 48 (r .pc % 64), 4) ∷ [])) (λ q. omega arith) z in
-    let b = none-first (leb M (r .pc)) 10 (firstOf ((active r && leb 48 (r .pc % 64), 4) ∷ [])) (λ q. omega arith) (a .1) in
+    let rest : List (Bool × ℕ) = (leb M (r .pc), 10) ∷ (active r && leb 48 (r .pc % 64), 4) ∷ [] in
+    let a = firstOf-none (not (eqb (r .pc % 4) 0)) 9 (firstOf rest) (λ q. omega arith) z in
+    let b = firstOf-none (leb M (r .pc)) 10 (firstOf ((active r && leb 48 (r .pc % 64), 4) ∷ [])) (λ q. omega arith)
+    (a .1) in
     let four : r .pc % 4 ≡ 0 = eqb-true (r .pc % 4) 0 (not-false (eqb (r .pc % 4) 0) (a .0)) in
     let inside : r .pc < M = leb-false M (r .pc) (b .0) in
     let line : r .pc / 64 < N = omega arith in
@@ -86,15 +93,6 @@ in-line a k words e z =
     let fits : suc j * k ≤ words * k = mul-le-mul-right k (lt-of-mul-lt-mul-right k below) in
     omega (arith, suc-mul j k)
 
--- a choice of five wishes, four of which want an address
-one-of-five : (N : ℕ) (a b c d e : Bool) {x10 x11 x32 x41 x42 : Wish} → ((a || (b || (d || (e || false)))) ≡ true → FairWish N x10) → ((a || (b || (d || (e || false)))) ≡ true → FairWish N x11) → FairWish N x32 → ((a || (b || (d || (e || false)))) ≡ true → FairWish N x41) → ((a || (b || (d || (e || false)))) ≡ true → FairWish N x42) → FairWish N (if a x10 (if b x11 (if c x32 (if d x41 (if e x42 idle)))))
-one-of-five N true b c d e f10 f11 f32 f41 f42 = f10 refl
-one-of-five N false true c d e f10 f11 f32 f41 f42 = f11 refl
-one-of-five N false false true d e f10 f11 f32 f41 f42 = f32
-one-of-five N false false false true e f10 f11 f32 f41 f42 = f41 refl
-one-of-five N false false false false true f10 f11 f32 f41 f42 = f42 refl
-one-of-five N false false false false false f10 f11 f32 f41 f42 = fair-idle
-
 -- no data access is under tag Secure Instruction
 not-code : (t : Tag) → isData t ≡ isChecked t → t ≡ secureInstruction → ⊥
 unfolding isData isChecked
@@ -103,30 +101,18 @@ not-code t e q = false≢true (subst (λ (x : Tag). isData x ≡ isChecked x) q 
 -- the data access is fair
 module _ (B : Board) (words : ℕ) (whole : words * B .wordBytes ≡ 64) (N M : ℕ) (e : M ≡ N * 64) (r : Processor) where
   -- an address without fault lies in memory, and its word in one line
-  word-fair : (w : ℕ) → decodeFault B M r w ≡ 0 → hasAddress w ≡ true → (tag : Tag) (write : Bool) (v : ℕ) → (write ≡ true → tag ≡ secureInstruction → ⊥) → FairWish N (word tag (address B r w) (B .wordBytes) write v)
-  unfolding decodeFault
+  word-fair : (w : ℕ) → decodeFault B M r w ≡ 0 → hasAddress w ≡ true → (tag : Tag) (write : Bool) (v : ℕ)
+      → (write ≡ true → tag ≡ secureInstruction → ⊥) → FairWish N (word tag (address B r w) (B .wordBytes) write v)
+  unfolding decodeFault opcodeFaults threadFaults addressFaults
   word-fair w z h tag write v t =
       let a = address B r w in
       let k = B .wordBytes in
       let ten = hasAddress w && ltb M (a + k) in
       let nine = hasAddress w && not (eqb (a % k) 0) in
-      let seven = eqb (opcode w) 43 || not (selListed w) in
-      let three = eqb (opcode w) 39 && not (eqb (r .cem .mode) 0) in
-      let one = eqb (opcode w) 32 && r .cem .lock in
-      let two = needsActive B w && not (active r) in
-      let f10 = firstOf ((ten, 10) ∷ []) in
-      let f9 = firstOf ((nine, 9) ∷ (ten, 10) ∷ []) in
-      let f7 = firstOf ((seven, 7) ∷ (nine, 9) ∷ (ten, 10) ∷ []) in
-      let f3 = firstOf ((three, 3) ∷ (seven, 7) ∷ (nine, 9) ∷ (ten, 10) ∷ []) in
-      let f1 = firstOf ((one, 1) ∷ (three, 3) ∷ (seven, 7) ∷ (nine, 9) ∷ (ten, 10) ∷ []) in
-      let f2 = firstOf ((two, 2) ∷ (one, 1) ∷ (three, 3) ∷ (seven, 7) ∷ (nine, 9) ∷ (ten, 10) ∷ []) in
-      let z2 : f2 ≡ 0 = none-first (not (exists B w)) 11 f2 (λ q. omega arith) z .1 in
-      let z1 : f1 ≡ 0 = none-first two 2 f1 (λ q. omega arith) z2 .1 in
-      let z3 : f3 ≡ 0 = none-first one 1 f3 (λ q. omega arith) z1 .1 in
-      let z7 : f7 ≡ 0 = none-first three 3 f7 (λ q. omega arith) z3 .1 in
-      let z9 : f9 ≡ 0 = none-first seven 7 f9 (λ q. omega arith) z7 .1 in
-      let n9 : (nine ≡ false) × (f10 ≡ 0) = none-first nine 9 f10 (λ q. omega arith) z9 in
-      let n10 : ten ≡ false = none-first ten 10 0 (λ q. omega arith) (n9 .1) .0 in
+      let rules = firstOf-neither (opcodeFaults B r w) (addressFaults B M r w) refl z in
+      let n9 : (nine ≡ false) × (firstOf ((ten, 10) ∷ []) ≡ 0) =
+      firstOf-none nine 9 (firstOf ((ten, 10) ∷ [])) (λ q. omega arith) (rules .1) in
+      let n10 : ten ≡ false = firstOf-none ten 10 0 (λ q. omega arith) (n9 .1) .0 in
       let aligned : a % k ≡ 0 = eqb-true (a % k) 0 (not-false (eqb (a % k) 0) (rw h at (n9 .0))) in
       let inside : a + k ≤ M = ltb-false M (a + k) (rw h at n10) in
       let fits : a % 64 + k ≤ 64 = in-line a k words whole aligned in
@@ -139,11 +125,12 @@ module _ (B : Board) (words : ℕ) (whole : words * B .wordBytes ≡ 64) (N M : 
       pos (suc k) q = omega arith
 
   key-fair : (w : ℕ) → Sized 16 (keyFrom r w)
-  unfolding keyFrom
   key-fair w =
       record {
-        size = length-append (bigBytes 8 (Ra r w)) (bigBytes 8 (Rb r w)) ∙ rw (length-bigBytes 8 (Ra r w), length-bigBytes 8 (Rb r w));
-        bytes = bytes-append (bigBytes 8 (Ra r w)) (bigBytes 8 (Rb r w)) (bytes-bigBytes 8 (Ra r w)) (bytes-bigBytes 8 (Rb r w));
+        size = length-append (bigBytes 8 (Ra r w)) (bigBytes 8 (Rb r w)) ∙ rw
+            (length-bigBytes 8 (Ra r w), length-bigBytes 8 (Rb r w));
+        bytes = bytes-append (bigBytes 8 (Ra r w)) (bigBytes 8 (Rb r w)) (bytes-bigBytes 8 (Ra r w))
+            (bytes-bigBytes 8 (Rb r w));
       }
 
   -- without a known fault, nothing was found in decoding
@@ -157,24 +144,44 @@ module _ (B : Board) (words : ℕ) (whole : words * B .wordBytes ≡ 64) (N M : 
       (λ f. rw (h, f) at z))
       (λ h. absurd (eqb-false (fetchFault M r) 0 h (rw h at z)))
 
-  pub data-fair : (got : Got) → FairWish N (dataWish B M r got)
-  unfolding dataWish hasAddress isData isChecked
-  data-fair got =
-      by-test (eqb (knownFault B M r got) 0)
-      (λ h.
-      let w = got .number in
-      let z = decoded got (eqb-true (knownFault B M r got) 0 h) in
-      rw h
-      (one-of-five N (eqb (opcode w) 10) (eqb (opcode w) 11) (eqb (opcode w) 32) (eqb (opcode w) 41) (eqb (opcode w) 42)
-      (λ a. word-fair w z a noTag false 0 (λ p. absurd (false≢true p)))
-      (λ a. word-fair w z a noTag true (Ra r w) (λ p. not-code noTag refl))
-      (fair-newKey (key-fair w))
-      (λ a. word-fair w z a secureData false 0 (λ p. absurd (false≢true p)))
-      (λ a. word-fair w z a secureData true (Ra r w) (λ p. not-code secureData refl))))
-      (λ h. rw h fair-idle)
+  has-address : (w k : ℕ) → opcode w ≡ k → oneOf k (10 ∷ 11 ∷ 41 ∷ 42 ∷ []) ≡ true → hasAddress w ≡ true
+  unfolding hasAddress
+  has-address w k e h = rw e h
 
-  pub instruction-sound : (c : Cipher) (key : List ℕ) → Sound N (instruction B c key M r)
-  unfolding instruction
-  instruction-sound c key =
-      sound-then N (grant (fetchWish M r)) (λ got. andThen (grant (dataWish B M r got)) (λ data′. ret (finished B c key M r got data′))) (grant-sound N (fetchWish M r) (fetch-fair N M r e))
-      (λ got. sound-then N (grant (dataWish B M r got)) (λ data′. ret (finished B c key M r got data′)) (grant-sound N (dataWish B M r got) (data-fair got)) (λ data′. sound-ret))
+  wish-fair : (c : Cipher) (key : List ℕ) (w : ℕ) → decodeFault B M r w ≡ 0 → FairWish N (wishFor B c key r w)
+  unfolding wishFor isData isChecked
+  wish-fair c key w z =
+      pick-each (FairWish N) (opcode w) (wishes B (address B r w) (Ra r w) (Rb r w)) idle (
+        λ e. word-fair w z (has-address w 10 e refl) noTag false 0 (λ p. absurd (false≢true p)),
+        (
+          λ e. word-fair w z (has-address w 11 e refl) noTag true (Ra r w) (λ p. not-code noTag refl),
+          (
+            λ e. fair-newKey (key-fair w),
+            (
+              λ e. word-fair w z (has-address w 41 e refl) secureData false 0 (λ p. absurd (false≢true p)),
+              (
+                λ e. word-fair w z (has-address w 42 e refl) secureData true (Ra r w) (λ p. not-code secureData refl),
+                tt {0},
+              ),
+            ),
+          ),
+        ),
+      )
+      fair-idle
+
+  module _ (c : Cipher) (key : List ℕ) where
+    pub data-fair : (got : Got) → FairWish N (dataWish B c key M r got)
+    unfolding dataWish
+    data-fair got =
+        by-test (eqb (knownFault B M r got) 0)
+        (λ h. rw h (wish-fair c key (got .number) (decoded got (eqb-true (knownFault B M r got) 0 h))))
+        (λ h. rw h fair-idle)
+
+    pub instruction-sound : Sound N (instruction B c key M r)
+    unfolding instruction
+    instruction-sound =
+        let end : Got → Got → Prog Stepped = λ got data′. ret (finished B c key M r got data′) in
+        sound-then N (grant (fetchWish M r)) (λ got. andThen (grant (dataWish B c key M r got)) (end got))
+        (grant-sound N (fetchWish M r) (fetch-fair N M r e))
+        (λ got. sound-then N (grant (dataWish B c key M r got)) (end got)
+        (grant-sound N (dataWish B c key M r got) (data-fair got)) (λ data′. sound-ret))

@@ -19,4 +19,5 @@ pub record Acceptable (B : Board) (m : Machine Cached) : Type 0 where
 
 -- the instruction word that a step fetches, 0 where it fetches none
 unfoldable pub fetched : Board → Cipher → Machine Cached → ℕ
-fetched B c m = perform (cached c (B .placement)) (grant (fetchWish (length (m .memory .mem)) (m .processor))) (m .memory) .out .number
+fetched B c m = perform (cached c (B .placement)) (grant (fetchWish (length (m .memory .mem)) (m .processor)))
+    (m .memory) .out .number

@@ -6,8 +6,9 @@ use Rattle.cmac.proofs.subkey1.Tie as tie
 
 returns : tie.Need-returns
 returns c =
-    subkey1-is (c .before .before .before .before .args .w .now) (c .before .before .encipher .result) (c .double .result) (c .before .before
-    .encipher .ensures) (c .double .ensures)
+    let run = c .before .before in
+    let args = run .before .before .args in
+    subkey1-is (args .w .now) (run .encipher .result) (c .double .result) (run .encipher .ensures) (c .double .ensures)
 
 pub subkey1-spec : {M : Type 1} → statement M
 subkey1-spec = tie.close (tie.spec (λ c κs. search needs) (λ c κs. search needs) returns)

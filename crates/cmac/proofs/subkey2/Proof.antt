@@ -6,8 +6,10 @@ use Rattle.cmac.proofs.subkey2.Tie as tie
 
 returns : tie.Need-returns
 returns c =
-    subkey2-is (c .before .before .before .args .w .now) (c .before .before .subkey1 .result) (c .double .result) (c .before .before .subkey1
-    .ensures) (c .double .ensures)
+    let first = c .before .before in
+    let args = first .before .args in
+    subkey2-is (args .w .now) (first .subkey1 .result) (c .double .result) (first .subkey1 .ensures)
+    (c .double .ensures)
 
 pub subkey2-spec : {M : Type 1} → statement M
 subkey2-spec = tie.close (tie.spec (λ c κs. search needs) (λ c κs. search needs) returns)

@@ -1,26 +1,25 @@
 -- `sealing::unseal` meets its promise.
-use Rattle.sealing.specs.Lines.{drkOf}
-use Rattle.sealing.proofs.Ways.{opened}
+use mathlib.Core.Path.{_∙_}
+use Rattle.aes_standard.specs.Chain.{cbcDecrypt}
+use Rattle.sealing.specs.Lines.{drkOf, deciphered}
+use Rattle.sealing.proofs.LineLaws.{under-line-key}
 use borrow.Author.Needs.{needs}
 use Rattle.sealing.proofs.unseal.Statement.{statement}
 use Rattle.sealing.proofs.unseal.Tie as tie
 
 returns : tie.Need-returns
+unfolding deciphered
 returns c =
-    let args = c .before .before .before .before .before .before .before .before .before .before .before .before .args in
-    opened (drkOf (args .hi) (args .lo)) (args .address) (c .before .before .before .before .before .before .before .before .before .before .line-key
-    .result) (c .before .before .before .before .before .before .before .before .expand .result) (c .before .before .before .before .before .before
-    .start-vector .result) (args .line .now) _ (c .before .before .before .before .before .before .before .before .before .before .line-key .ensures)
-    (c .before .before .before .before .before .before .before .before .expand .ensures) (c .before .before .before .before .before .before
-    .start-vector .ensures) (c .before .before .decrypt .ensures)
+    let vector = c .before .before .before .before .before .before in
+    let key = vector .before .before .before .before in
+    let args = key .before .before .args in
+    c .before .before .decrypt .ensures
+    ∙ under-line-key cbcDecrypt (drkOf (args .hi) (args .lo)) (args .address) (key .line-key .result) _ _
+    (args .line .now)
+    (key .line-key .ensures) (vector .before .before .expand .ensures) (vector .start-vector .ensures)
 
 pub unseal-spec : {M : Type 1} → statement M
 unseal-spec =
     tie.close
-    (tie.spec
-    (λ c κs. search needs)
-    (λ c κs. search needs)
-    (λ c κs. search needs)
-    (λ c κs. search needs)
-    (λ c. search needs)
-    returns)
+    (tie.spec (λ c κs. search needs) (λ c κs. search needs) (λ c κs. search needs) (λ c κs. search needs)
+    (λ c. search needs) returns)

@@ -4,17 +4,11 @@ use borrow.Author.Tests.{eq-eqb, ne-eqb}
 use Rattle.board.proofs.listing.row_plan.Statement.{statement}
 use Rattle.board.proofs.listing.row_plan.Tie as tie
 
-listed-requires : tie.Need-listed-requires
-listed-requires c κs = search needs
-
 returns : tie.Need-returns
-returns c = rw (ne-eqb (c .before .before .args .refusal) 0 (c .before .if1 .taken), c .listed .ensures)
-
-listed-requires-2 : tie.Need-listed-requires-2
-listed-requires-2 c κs = search needs
+returns c = record { filled = rw (ne-eqb _ 0 (c .if1 .taken)); reported = c .before .uncounted .ensures }
 
 returns-2 : tie.Need-returns-2
-returns-2 c = rw (eq-eqb (c .before .before .args .refusal) 0 (c .before .if1 .left), c .listed2 .ensures)
+returns-2 c = record { filled = rw (eq-eqb _ 0 (c .if1 .left)); reported = c .before .uncounted .ensures }
 
 pub row-plan-spec : {M : Type 1} → statement M
-row-plan-spec = tie.close (tie.spec listed-requires returns listed-requires-2 returns-2)
+row-plan-spec = tie.close (tie.spec (λ c κs. search needs) returns returns-2)

@@ -16,7 +16,8 @@ returns c = c .row-of .ensures
 
 returns-2 : tie.Need-returns-2
 unfolding direct
-returns-2 c = let a = c .before .before .before .args in c .row-of2 .ensures ∙ ap (λ (d : ℕ). rowOf (entryOf d)) (sym (past-end (a .dir .now) (a .i) (omega (arith, c .before .if1 .left))))
+returns-2 c = let a = c .before .before .before .args in c .row-of2 .ensures
+    ∙ ap (λ (d : ℕ). rowOf (entryOf d)) (sym (past-end (a .dir .now) (a .i) (omega (arith, c .before .if1 .left))))
 
 pub row-at-spec : {M : Type 1} → statement M
 row-at-spec =

@@ -1,60 +1,52 @@
 -- `registers::execute::execute` meets its promise.
-use Rattle.registers.proofs.Executing.{executed-value, key-value, executed-plain, key-plain, unloaded}
-use mathlib.Core.Path.{sym, _∙_}
+use mathlib.Core.Path.{_≡_, sym, ap₂, _∙_}
+use mathlib.Core.Bool.{false}
+use Rattle.instructions.specs.Record.{withReg}
+use Rattle.instructions.specs.Operations.{hasValue}
+use Rattle.registers.proofs.Executing.{executed-value, nextKey-value, executed-low, nextKey-low, executed-other}
 use borrow.Author.Needs.{needs}
 use Rattle.registers.proofs.execute.execute.Statement.{statement}
 use Rattle.registers.proofs.execute.execute.Tie as tie
 
 returns : tie.Need-returns
 returns c =
+    let at-if1 = c .before .before .before .before .before .before .before in
+    let has = sym (at-if1 .before .has-value .ensures) ∙ at-if1 .if1 .taken in
+    let at-field = c .before .before .before .before in
+    let kept = at-if1 .before .before .args .r .now in
+    let written = ap₂ (λ n v. withReg n v kept) (at-field .field-a .ensures .0) (at-field .before .value .ensures) in
+    let read = c .before .before .set-register .ensures ∙ written in
     record {
-      record′ = executed-value _ _ _ _ _ _ (sym (c .before .before .before .before .before .before .before .before .has-value .ensures) ∙ c
-          .before .before .before .before .before .before .before .if1 .taken) (c .before .before .set-register .ensures ∙ (rw (
-            c .before .before .before
-                .before .field-a .ensures .0,
-            c .before .before .before .before .before .value .ensures,
-          ))) (c .behind .ensures);
-      key′ = key-value _ _ _ (c .before
-          .before .before .before .before .before .before .before .before .args .loaded) (sym (c .before .before .before .before .before .before .before
-          .before .has-value .ensures) ∙ c .before .before .before .before .before .before .before .if1 .taken);
+      record′ = executed-value _ _ _ _ _ _ _ _ has read (c .behind .ensures);
+      key′ = nextKey-value _ _ _ has;
     }
+
+-- an opcode that writes no value
+no-value : (m : tie.After-next-pc) → hasValue (m .before .before .before .before .args .w) ≡ false
+no-value m = sym (m .before .before .before .has-value .ensures) ∙ m .before .before .if1 .left
 
 returns-2 : tie.Need-returns-2
 returns-2 c =
+    let low = rw (c .before .opcode .ensures .0) at (c .if2 .taken) in
     record {
-      record′ = executed-plain _ _ _ _ _ (rw (c .before .opcode .ensures .0) at (c .if2 .taken)) (sym (c .before .before .before .before
-          .before .has-value .ensures) ∙ c .before .before .before .before .if1 .left) (c .before .before .next-pc .ensures);
-      key′ = key-plain _ _ _ (c
-          .before .before .before .before .before .before .args .loaded) (rw (c .before .opcode .ensures .0) at (c .if2 .taken));
+      record′ = executed-low _ _ _ _ _ _ _ low (no-value (c .before .before)) (c .before .before .next-pc .ensures);
+      key′ = nextKey-low _ _ _ low;
     }
-
-special-requires : tie.Need-special-requires
-special-requires c κs = (
-  c .before .before .before .next-pc .ensures,
-  sym (c .before .before .before .before .before .before .has-value .ensures) ∙ c .before .before
-      .before .before .before .if1 .left,
-)
 
 returns-3 : tie.Need-returns-3
 returns-3 c =
+    let at-next-pc = c .before .before .before .before .before .before in
     record {
-      record′ = c .special .ensures .record′ ∙ unloaded _ _ _ _ _ (sym (c .before .before .before .before .before .before .before .has-value
-          .ensures) ∙ c .before .before .before .before .before .before .if1 .left);
-      key′ = c .special .ensures .key′;
+      record′ =
+          executed-other _ _ _ _ _ _ _ _ _ (no-value at-next-pc) (at-next-pc .next-pc .ensures) (c .next-mode .ensures)
+          (c .before .before .effect .ensures .record′);
+      key′ = c .before .before .effect .ensures .key′;
     }
 
 pub execute-spec : {M : Type 1} → statement M
 execute-spec =
     tie.close
     (tie.spec
-    (λ c κs. search needs)
-    (λ c κs. search needs)
-    (λ c κs. search needs)
-    (λ c κs. search needs)
-    (λ c κs. search needs)
-    returns
-    (λ c κs. search needs)
-    (λ c κs. search needs)
-    returns-2
-    special-requires
+    (λ c κs. search needs) (λ c κs. search needs) (λ c κs. search needs) (λ c κs. search needs) (λ c κs. search needs)
+    returns (λ c κs. search needs) (λ c κs. search needs) returns-2 (λ c κs. search needs) (λ c κs. search needs)
     returns-3)

@@ -1,72 +1,44 @@
 -- `registers::execute::next_pc` meets its promise.
-use Rattle.lists.proofs.Cases.{both-hold}
 use mathlib.Core.Path.{sym, ap, _∙_}
-use borrow.Author.Tests.{ne-eqb, eqb-true}
-use Rattle.registers.proofs.Choices.{fourfold, not-taken}
-use Rattle.instructions.specs.Board.{documentBoard, modulus}
-use Rattle.instructions.specs.Record.{reg}
-use Rattle.instructions.specs.Operations.{nextPc, taken, target, Ra, Rb, behind}
+use Rattle.instructions.specs.Board.{documentBoard}
+use Rattle.instructions.specs.Fields.{fieldA, fieldB}
+use Rattle.instructions.specs.Operations.{behind}
+use Rattle.registers.proofs.ByOpcode.{Reads, read}
+use Rattle.registers.proofs.NextPc.{nextPc-jr, nextPc-beq, nextPc-behind}
 use borrow.Author.Needs.{needs}
 use Rattle.registers.proofs.execute.next_pc.Statement.{statement}
 use Rattle.registers.proofs.execute.next_pc.Tie as tie
 
+-- what was read of the instruction
+reads : (m : tie.After-word-b) →
+    let at-opcode = m .before .before in
+    let w = at-opcode .before .args .w in
+    Reads (at-opcode .before .args .r .now) w (at-opcode .opcode .result)
+    (fieldA w) (m .before .word-a .result) (fieldB w) (m .word-b .result)
+reads m = read (m .before .before .opcode .ensures .0) (m .before .word-a .ensures) (m .word-b .ensures)
+
 returns : tie.Need-returns
-unfolding nextPc taken target Ra Rb reg documentBoard modulus
-returns c =
-    rw (
-      sym (c .before .before .before .before .before .opcode .ensures .0) ∙ c .if1 .taken,
-      ← (c .before .before .before .before .field-a .ensures
-          .0),
-    )
+returns c = nextPc-jr _ _ (reads (c .before)) (c .if1 .taken)
 
 returns-2 : tie.Need-returns-2
-unfolding nextPc taken target Ra Rb reg documentBoard modulus
 returns-2 c =
-    let b = both-hold _ _ (sym (c .before .before .before .before .before .both .ensures) ∙ c .before .before .before .before .if2 .taken) in rw (
-      sym
-          (c .before .before .before .before .before .before .before .before .before .before .before .opcode .ensures .0) ∙ eqb-true _ 8 (b .0),
-      ← (c
-          .before .before .before .before .before .before .before .before .before .before .field-a .ensures .0),
-      ← (c .before .before .before .before
-          .before .before .before .before .before .field-b .ensures .0),
-      b .1,
-    ) (fourfold _ _ _ _ _ (c .before .before .wrapping-add-u64 .ensures ∙ (rw (c
-    .before .before .before .imm .ensures))) (c .before .wrapping-add-u642 .ensures) (c .wrapping-add-u643 .ensures))
+    let at-if2 = c .before .before .before .before in
+    nextPc-beq _ _ (reads (at-if2 .before .before .before)) (sym (at-if2 .before .both .ensures) ∙ at-if2 .if2 .taken)
+    (c .before .before .before .imm .ensures) (c .before .before .plus .ensures) (c .before .plus2 .ensures)
+    (c .plus3 .ensures)
 
 returns-3 : tie.Need-returns-3
-unfolding nextPc taken target Ra Rb reg documentBoard modulus
 returns-3 c =
-    rw (
-      ← (c .before .before .before .before .before .before .before .before .before .before .before .opcode .ensures .0),
-      ← (c .before .before
-          .before .before .before .before .before .before .before .before .field-a .ensures .0),
-      ← (c .before .before .before .before .before .before
-          .before .before .before .field-b .ensures .0),
-      ne-eqb _ 9 (c .before .before .before .before .before .before .if1 .left),
-      not-taken _ _ (sym (c
-          .before .before .before .before .before .both .ensures) ∙ c .before .before .before .before .if2 .left),
-    ) (c .behind .ensures ∙ ap (behind
-    documentBoard _) (c .before .either .ensures ∙ (rw (c .before .before .before .next-mode .ensures))))
+    let at-if2 = c .before .before .before .before in
+    let mode = c .before .before .before .next-mode .ensures in
+    nextPc-behind _ _ (reads (at-if2 .before .before .before)) (at-if2 .before .before .if1 .left)
+    (sym (at-if2 .before .both .ensures) ∙ at-if2 .if2 .left)
+    (c .behind .ensures ∙ ap (behind documentBoard _) (c .before .either .ensures ∙ (rw mode)))
 
 pub next-pc-spec : {M : Type 1} → statement M
 next-pc-spec =
     tie.close
     (tie.spec
-    (λ c κs. search needs)
-    (λ c κs. search needs)
-    (λ c κs. search needs)
-    (λ c. search needs)
-    (λ c. search needs)
-    (λ c. search needs)
-    (λ c. search needs)
-    returns
-    (λ c κs. search needs)
-    (λ c κs. search needs)
-    (λ c κs. search needs)
-    (λ c κs. search needs)
-    (λ c κs. search needs)
-    returns-2
-    (λ c κs. search needs)
-    (λ c κs. search needs)
-    (λ c κs. search needs)
-    returns-3)
+    (λ c κs. search needs) (λ c κs. search needs) (λ c κs. search needs) returns (λ c κs. search needs)
+    (λ c κs. search needs) (λ c κs. search needs) (λ c κs. search needs) (λ c κs. search needs) returns-2
+    (λ c κs. search needs) (λ c κs. search needs) (λ c κs. search needs) returns-3)

@@ -1,7 +1,7 @@
 -- `registers::faults::fetch_fault` meets its promise.
 use mathlib.Core.Path.{refl, sym, _∙_}
 use borrow.Author.Tests.{eq-eqb, ne-eqb, le-leb, lt-leb}
-use Rattle.registers.proofs.Choices.{hit, miss}
+use Rattle.instructions.proofs.RuleLaws.{if-taken, if-left}
 use Rattle.instructions.specs.Record.{active}
 use Rattle.instructions.specs.Faults.{fetchFault}
 use borrow.Author.Needs.{needs}
@@ -19,14 +19,16 @@ returns-2 c = rw (eq-eqb _ 0 (c .before .before .if1 .left), le-leb _ _ (c .if2 
 returns-3 : tie.Need-returns-3
 unfolding fetchFault active
 returns-3 c =
-    rw (eq-eqb _ 0 (c .before .before .before .before .before .before .if1 .left), lt-leb _ _ (c .before .before .before .before .if2 .left)) (hit _ _
-    _ (sym (c .before .both .ensures) ∙ c .if3 .taken))
+    let at-if2 = c .before .before .before .before in
+    rw (eq-eqb _ 0 (at-if2 .before .before .if1 .left), lt-leb _ _ (at-if2 .if2 .left))
+    (if-taken _ _ _ (sym (c .before .both .ensures) ∙ c .if3 .taken))
 
 returns-4 : tie.Need-returns-4
 unfolding fetchFault active
 returns-4 c =
-    rw (eq-eqb _ 0 (c .before .before .before .before .before .before .if1 .left), lt-leb _ _ (c .before .before .before .before .if2 .left)) (miss _
-    _ _ _ (sym (c .before .both .ensures) ∙ c .if3 .left) refl)
+    let at-if2 = c .before .before .before .before in
+    rw (eq-eqb _ 0 (at-if2 .before .before .if1 .left), lt-leb _ _ (at-if2 .if2 .left))
+    (if-left _ _ _ _ (sym (c .before .both .ensures) ∙ c .if3 .left) refl)
 
 pub fetch-fault-spec : {M : Type 1} → statement M
 fetch-fault-spec = tie.close (tie.spec returns returns-2 (λ c κs. search needs) returns-3 returns-4)

@@ -5,16 +5,14 @@ use Rattle.sheets.proofs.running.cold.Statement.{statement}
 use Rattle.sheets.proofs.running.cold.Tie as tie
 
 returns : tie.Need-returns
-returns c = let head = c .before .before .before .before .before .before .before .before in let a = head .before .before .before .before .before .before .before .before .before .before .before .before .before .before .before .before .before .before .before .before .before .before .args in cold-gives _ _ _ _ _ _ _ _ _ _ _ _ _ _ _ _ _ _ (head .before .before .before .before .before .before .before .before .before .before .before .before .before .power-cut .ensures) (head .run .ensures)
+returns c =
+    let ran = c .before .before .before .before .before .before .before .before in
+    let cut = ran .before .before .before .before .before .before .before .before .before .before .before .before
+    .before in
+    cold-gives _ _ _ _ _ _ (cut .power-cut .ensures) (ran .run .ensures)
 
 pub cold-spec : {M : Type 1} → statement M
 cold-spec =
     tie.close
-    (tie.spec
-    (λ c κs. search needs)
-    (λ c κs. search needs)
-    (λ c. search needs)
-    (λ c. search needs)
-    (λ c. search needs)
-    (λ c. search needs)
-    returns)
+    (tie.spec (λ c κs. search needs) (λ c κs. search needs) (λ c. search needs) (λ c. search needs) (λ c. search needs)
+    (λ c. search needs) returns)

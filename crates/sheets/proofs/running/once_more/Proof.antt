@@ -8,19 +8,18 @@ use Rattle.sheets.proofs.running.once_more.Tie as tie
 
 filled-in-requires : tie.Need-filled-in-requires
 unfolding Leaves
-filled-in-requires c κs = orderly-counts (c .before .before .before .before .before .before .before .before .before .before .before .run .ensures)
+filled-in-requires c κs =
+    let ran = c .before .before .before .before .before .before .before .before .before .before .before in
+    orderly-counts (ran .run .ensures)
 
 returns : tie.Need-returns
 unfolding Leaves
-returns c = (says (c .before .before .before .before .before .before .before .before .before .before .before .before .run .ensures) true _ (c .filled-in .ensures), c .before .before .before .before .before .before .before .before .before .before .before .before .run .ensures .left)
+returns c =
+    let ran = c .before .before .before .before .before .before .before .before .before .before .before .before in
+    (says (ran .run .ensures) true _ (c .filled-in .ensures), ran .run .ensures .left)
 
 pub once-more-spec : {M : Type 1} → statement M
 once-more-spec =
     tie.close
-    (tie.spec (λ c κs. search needs)
-    filled-in-requires
-    (λ c. search needs)
-    (λ c. search needs)
-    (λ c. search needs)
-    (λ c. search needs)
-    returns)
+    (tie.spec (λ c κs. search needs) filled-in-requires (λ c. search needs) (λ c. search needs) (λ c. search needs)
+    (λ c. search needs) returns)

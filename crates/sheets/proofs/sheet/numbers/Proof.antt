@@ -1,10 +1,10 @@
 -- `sheets::sheet::numbers` meets its promise.
-use Rattle.sheets.proofs.Numbers.{no-numbers, one-more}
+use Rattle.sheets.proofs.CopiedNumbers.{no-numbers, one-more}
 use Rattle.sheets.specs.Figures.{SameNumbers}
-use Prim.Native.Nat.{ℕ, _-_, _<_, _≤_}
+use Prim.Native.Nat.{_-_, _≤_}
 use native.Mathlib.Omega.{arith}
 use lib.ListN.{length, length-set}
-use mathlib.Core.Path.{_≡_, _∙_, sym, subst}
+use mathlib.Core.Path.{_≡_, _∙_}
 use borrow.Author.Needs.{needs}
 use Rattle.sheets.proofs.sheet.numbers.Statement.{statement}
 use Rattle.sheets.proofs.sheet.numbers.Tie as tie
@@ -34,7 +34,13 @@ loop-less : tie.Need-loop-less Inv-loop μ-loop
 loop-less c = search needs
 
 loop-again : tie.Need-loop-again Inv-loop μ-loop
-loop-again c = let turn = c .before .before .loop in (omega arith, one-more (turn .i) _ (turn .r) _ (omega (arith, turn .inv .2)) (c .number-at .ensures) (turn .inv .1), length-set (turn .r) (turn .i) _ ∙ turn .inv .2)
+loop-again c = let turn = c .before .before .loop in (
+  omega arith,
+  one-more (turn .i) _ (turn .r) _
+      (omega (arith, turn .inv .2)) (c .number-at .ensures) (turn .inv .1),
+  length-set (turn .r) (turn .i) _
+      ∙ turn .inv .2,
+)
 
 returns : tie.Need-returns Inv-loop μ-loop
 returns c = let turn = c .before .loop in let full : turn .i ≡ 64 = omega arith in rw full at (turn .inv .1)

@@ -1,0 +1,2 @@
+-- The laws of chains of blocks in a buffer.
+pub mod ChainLaws

@@ -1,0 +1,2 @@
+-- CBC decryption as the code takes it.
+pub mod Equivalent

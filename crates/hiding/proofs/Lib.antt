@@ -1,0 +1,2 @@
+-- The laws of registers hashed and hidden one after the other.
+pub mod RegisterLaws

@@ -1,2 +1,0 @@
--- What the numbers of a comparison are.
-pub mod Numbers

@@ -1,0 +1,2 @@
+-- The keys of the inverse cipher.
+pub mod Inverse

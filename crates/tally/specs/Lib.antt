@@ -1,2 +1,0 @@
--- What the tallies of comparisons mean.
-pub mod Tally

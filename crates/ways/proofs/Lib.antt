@@ -1,0 +1,2 @@
+-- The laws of all rounds, either way.
+pub mod CipherLaws
