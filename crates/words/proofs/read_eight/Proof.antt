@@ -6,8 +6,7 @@ use Rattle.words.proofs.read_eight.Statement.{statement}
 use Rattle.words.proofs.read_eight.Tie as tie
 
 returns : tie.Need-returns
-returns c =
-    let e = little-halves (c .before .before .before .args .at) 4 4 (c .before .before .before .args .s .now)
+returns c = let e = little-halves (c .before .before .before .args .at) 4 4 (c .before .before .before .args .s .now)
     (omega arith) in
     omega (arith, e)
 

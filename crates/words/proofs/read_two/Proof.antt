@@ -7,9 +7,8 @@ use Rattle.words.proofs.read_two.Tie as tie
 
 returns : tie.Need-returns
 returns c =
-    let e = little-pair (c .before .before .before .before .before .args .at)
-    (c .before .before .before .before .before .args .s .now) (omega arith) in
-    (omega (arith, e), omega arith)
+    let at-start = c .before .before .before .before .before in
+    let e = little-pair (at-start .args .at) (at-start .args .s .now) (omega arith) in (omega (arith, e), omega arith)
 
 pub read-two-spec : {M : Type 1} → statement M
 read-two-spec = tie.close (tie.spec (λ c. search needs) (λ c κs. search needs) (λ c. search needs)

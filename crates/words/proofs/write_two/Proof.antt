@@ -14,8 +14,7 @@ slice-write-s-2 c = simp length-set (omega arith)
 
 returns : tie.Need-returns
 unfolding littleBytes
-returns c =
-    rw (c .before .low .ensures, c .low2 .ensures)
+returns c = rw (c .before .low .ensures, c .low2 .ensures)
     (simp towards-suc (littleBytes-stored (c .before .before .before .args .at) 2 (c .before .before .before .args .v)
     (c .before .before .before .args .s .now) _ (omega arith) refl))
 

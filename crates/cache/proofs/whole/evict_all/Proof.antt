@@ -1,6 +1,6 @@
 -- `cache::whole::evict_all` meets its promise.
 use borrow.Author.Needs.{needs}
-use Prim.Native.Nat.{_-_, _*_}
+use Prim.Native.Nat.{_-_, _≤_, _^_}
 use native.Mathlib.Omega.{arith}
 use Rattle.directory.specs.Direct.{direct}
 use Rattle.directory.proofs.DirectLaws.{direct-laws}
@@ -18,47 +18,43 @@ Inv-loop hi lo mem₀ macs₀ cache₀ dir₀ n k₀ i₀ mem macs cache dir k i
 abbrev μ-loop : tie.MeasureT-loop
 μ-loop hi lo mem₀ macs₀ cache₀ dir₀ n k₀ i₀ mem macs cache dir k i = n - i
 
+-- from one place of the code back to another
+abbrev back-to-evict : tie.After-add Inv-loop μ-loop → tie.After-evict Inv-loop μ-loop
+back-to-evict c = c .before .before .before .before .before .before .before .before .before
+
 loop-holds : tie.Need-loop-holds Inv-loop μ-loop
-loop-holds c = rw (c .none .ensures)
-    (emptied-none direct direct-laws _ (c .before .before .before .before .before .pre))
+loop-holds c =
+    let at-start = c .before .before .before .before .before in
+    rw (c .none .ensures) (emptied-none direct direct-laws _ (at-start .pre))
 
 evict-requires : tie.Need-evict-requires Inv-loop μ-loop
 evict-requires c κs =
-    let turn = c .before .before .before .before .before .loop .inv in
-    (turn .fit, omega (arith, turn .slots, turn .dir))
+    let at-loop = c .before .before .before .before .before in
+    let turn = at-loop .loop .inv in (turn .fit, omega (arith, turn .slots, turn .dir))
 
 add-requires : tie.Need-add-requires Inv-loop μ-loop
-add-requires c κs = (
-  small-bounded (c .before .before .before .before .before .before .before .before .before .before .before .before
-      .before .before .loop .i) _ (omega arith)
-      (c .before .before .before .before .before .before .before .before .before .before .before .before .before .before
-      .loop .inv .small),
-  small-bounded 1 _ (omega arith)
-      (evicted-small direct _ _ _ _
-      (c .before .before .before .before .before .before .before .before .evict .ensures)),
-)
+add-requires c κs =
+    let at-evict = c .before .before .before .before .before .before .before .before in
+    let at-loop-test = at-evict .before .before .before .before .before in
+    let at-start = at-loop-test .before .before .before .before .before .before .before in
+    let i = at-loop-test .before .loop .i in
+    let small : i ≤ 2 ^ 62 = omega (arith, at-loop-test .loop-test .taken, at-start .good .1 .1 .1 .1 .1 .0 .0) in (
+      small-bounded i _ small (at-loop-test .before .loop .inv .small),
+      small-bounded 1 _ (omega arith) (evicted-small direct _ _ _ _ (at-evict .evict .ensures)),
+    )
 
 add-i : tie.Need-add-i Inv-loop μ-loop
-add-i c = record {
-  fits =
-      omega (
-        arith,
-        c .before .before .before .before .before .before .before .before .before .before .before .before
-            .before .before .loop-test .taken,
-        c .before .before .before .before .before .before .before .before .before .before .before .before .before .before
-            .before .before .before .before .before .before .before .good .1 .1 .1 .1 .1 .0 .0,
-      );
-}
+add-i c =
+    let at-loop-test = (back-to-evict c) .before .before .before .before .before in
+    let at-start = at-loop-test .before .before .before .before .before .before .before in
+    record { fits = omega (arith, at-loop-test .loop-test .taken, at-start .good .1 .1 .1 .1 .1 .0 .0) }
 
 loop-again : tie.Need-loop-again Inv-loop μ-loop
 loop-again c =
-    let kept = c .before .before .before .before .before .before .before .before .before .evict .kept .1 .1 in
-    emptied-more direct direct-laws _ _ _ _ _ _ _ _
-    (c .before .before .before .before .before .before .before .before .before .before .before .before .before
-    .before .loop-test .taken)
-    (c .before .before .before .before .before .before .before .before .before .before .before .before .before
-    .before .before .loop .inv)
-    (c .before .before .before .before .before .before .before .before .before .evict .ensures) (c .add .ensures)
+    let at-evict = back-to-evict c in
+    let at-loop-test = at-evict .before .before .before .before .before in
+    let kept = at-evict .evict .kept .1 .1 in emptied-more direct direct-laws _ _ _ _ _ _ _ _
+    (at-loop-test .loop-test .taken) (at-loop-test .before .loop .inv) (at-evict .evict .ensures) (c .add .ensures)
     (kept .1 .1 .1 .0) (kept .0) (kept .1 .0) (kept .1 .1 .0)
 
 same-length : tie.Need-same-length Inv-loop μ-loop

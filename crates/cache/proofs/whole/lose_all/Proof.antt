@@ -16,17 +16,15 @@ loop-holds : tie.Need-loop-holds Inv-loop μ-loop
 loop-holds c = lost-none _ _ (c .before .before .pre)
 
 lose-requires : tie.Need-lose-requires Inv-loop μ-loop
-lose-requires c κs =
-    let turn = c .before .before .before .loop in
+lose-requires c κs = let turn = c .before .before .before .loop in
     (turn .inv .sizes, omega (arith, turn .inv .slots, turn .inv .places))
 
 loop-again : tie.Need-loop-again Inv-loop μ-loop
 loop-again c =
-    lost-more _ _ _ _ _ _ _ _ (c .before .before .before .before .before .before .before .loop-test .taken)
-    (c .before .before .before .before .before
-    .before .before .before .loop .inv) (c .before .before .before .before .lose .ensures)
-    (c .before .before .before .before .lose .kept .0) (c
-    .before .before .before .before .lose .kept .1 .0)
+    let at-loop-test = c .before .before .before .before .before .before .before in
+    lost-more _ _ _ _ _ _ _ _ (at-loop-test .loop-test .taken) (at-loop-test .before .loop .inv)
+    (c .before .before .before .before .lose .ensures) (c .before .before .before .before .lose .kept .0)
+    (c .before .before .before .before .lose .kept .1 .0)
 
 same-length : tie.Need-same-length Inv-loop μ-loop
 same-length c = c .before .loop .inv .bytes
