@@ -15,7 +15,8 @@ use Rattle.schedule.proofs.InverseLaws.{eqInvCipher-invCipher}
 
 pub decipher-is : (key w v s x r : List ℕ) (z y : Columns) → w ≡ keyExpansion key → InverseKeys 11 w v
     → x ≡ state (at s)
-    → flipped (blockOf z) ≡ eqInvCipher v x → y ≡ changed z → r ≡ blockOf y → r ≡ invCipher (keyExpansion key) s
+    → flipped (blockOf z) ≡ eqInvCipher v x → y ≡ changed z → r ≡ blockOf y
+    → r ≡ invCipher (keyExpansion key) s
 decipher-is key w v s x r z y schedule keys load run turn store =
     store ∙ block-changed z y turn ∙ run ∙ eqInvCipher-invCipher w v keys x ∙ ap₂ invCipher schedule load
     ∙ invCipher-state (keyExpansion key) s

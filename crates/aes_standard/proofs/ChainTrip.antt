@@ -53,7 +53,8 @@ unchained-chained w (suc n) before l h hb hl =
     (unchained-chained w n c (drop 16 l) (omega (arith, length-drop 16 l)) (hc .bytes) (bytes-drop 16 l hl))
     ∙ take-append-drop 16 l)
 
-chained-length : (w : List ℕ) (n : ℕ) (before l : List ℕ) → n * 16 ≤ length l → length (chained w n before l) ≡ length l
+chained-length : (w : List ℕ) (n : ℕ) (before l : List ℕ) → n * 16 ≤ length l
+    → length (chained w n before l) ≡ length l
 unfolding chained
 chained-length w zero before l h = refl
 chained-length w (suc n) before l h =
@@ -63,7 +64,8 @@ chained-length w (suc n) before l h =
     (chained-length w n c (drop 16 l) (omega (arith, length-drop 16 l)) ∙ length-drop 16 l)
     ∙ omega arith
 
-chained-bytes : (w : List ℕ) (n : ℕ) (before l : List ℕ) → Bytes before → Bytes l → Bytes (chained w n before l)
+chained-bytes : (w : List ℕ) (n : ℕ) (before l : List ℕ) → Bytes before → Bytes l
+    → Bytes (chained w n before l)
 unfolding chained
 chained-bytes w zero before l hb hl = hl
 chained-bytes w (suc n) before l hb hl =
@@ -91,7 +93,8 @@ unchained-bytes w (suc n) before l hb hl =
     (plus-block (invCipher w (take 16 l)) before (invCipher-block w (take 16 l) (bytes-take 16 l hl) .bytes) hb .bytes)
     (unchained-bytes w n (take 16 l) (drop 16 l) (bytes-take 16 l hl) (bytes-drop 16 l hl))
 
-absorbed-block : (w : List ℕ) (n : ℕ) (before l : List ℕ) → Block before → Bytes l → Block (absorbed w n before l)
+absorbed-block : (w : List ℕ) (n : ℕ) (before l : List ℕ) → Block before → Bytes l
+    → Block (absorbed w n before l)
 unfolding absorbed
 absorbed-block w zero before l hb hl = hb
 absorbed-block w (suc n) before l hb hl =

@@ -9,7 +9,8 @@ use Rattle.aes_standard.specs.State.{at, state, Block, subBytes, shiftRo
 use Rattle.aes_standard.specs.State.{invSubBytes, invShiftRows, invMixColumns}
 use Rattle.aes_standard.specs.Cipher.{round, rounds, cipher, invRound, invRounds, invCipher}
 use Rattle.aes_standard.proofs.StateLaws.{block-state, addRoundKey-block, addRoundKey-again, subBytes-block}
-use Rattle.aes_standard.proofs.StateLaws.{shiftRows-block, invSubBytes-block, invShiftRows-block, mixWith-block}
+use Rattle.aes_standard.proofs.StateLaws.{shiftRows-block, invSubBytes-block, invShiftRows-block}
+use Rattle.aes_standard.proofs.StateLaws.{mixWith-block}
 use Rattle.aes_standard.proofs.StateLaws.{rows-bytes-undone, mixColumns-undone}
 
 -- SubBytes, then ShiftRows
@@ -64,7 +65,8 @@ module _ (w s : List ℕ) (bytes : Bytes s) where
       let hx = moved-block (rounds w n s) (rounds-bytes w n s bytes) in
       ap (λ (z : List ℕ). invMixColumns (addRoundKey w (suc n) z))
       (rows-bytes-undone (rounds w (suc n) s) (rounds-bytes w (suc n) s bytes))
-      ∙ ap invMixColumns (addRoundKey-state w (suc n) (rounds w (suc n) s) ∙ addRoundKey-again w (suc n) (mixColumns x))
+      ∙ ap invMixColumns (addRoundKey-state w (suc n) (rounds w (suc n) s)
+      ∙ addRoundKey-again w (suc n) (mixColumns x))
       ∙ invMixColumns-state (mixColumns x) ∙ mixColumns-undone x (hx .bytes) ∙ block-state x hx
 
   -- n rounds back

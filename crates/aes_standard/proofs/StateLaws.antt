@@ -41,7 +41,8 @@ block-state b h = sym (tabulated 16 b (h .size))
 
 pub plus-block : (a b : List ℕ) → Bytes a → Bytes b → Block (plus a b)
 unfolding plus
-plus-block a b ha hb = state-block (λ i. at a i ⊕ at b i) (λ i. ⊕-lt 8 (at a i) (at b i) (ha .byte i) (hb .byte i))
+plus-block a b ha hb = state-block (λ i. at a i ⊕ at b i)
+    (λ i. ⊕-lt 8 (at a i) (at b i) (ha .byte i) (hb .byte i))
 
 -- adding a block flipped-flipped takes it away again
 pub plus-again : (a b : List ℕ) → plus (plus a b) b ≡ state (at a)
@@ -76,21 +77,26 @@ unfolding invShiftRows
 invShiftRows-block s h = state-block (λ i. at s ((i + (4 - i % 4) * 4) % 16)) (λ i. h .byte _)
 
 -- SubBytes and ShiftRows are undone by their inverses, in this order
-pub rows-bytes-undone : (s : List ℕ) → Bytes s → invSubBytes (invShiftRows (shiftRows (subBytes s))) ≡ state (at s)
+pub rows-bytes-undone : (s : List ℕ) → Bytes s → invSubBytes (invShiftRows (shiftRows (subBytes s))) ≡ state
+    (at s)
 unfolding invSubBytes invShiftRows shiftRows subBytes
 rows-bytes-undone s h k = state (λ i. sub-undone .undone (at s i) (h .byte i) k)
 
-mixed-lt : (m0 m1 m2 m3 a b c d : ℕ) → a < 256 → b < 256 → c < 256 → d < 256 → m0 • a ⊕ m1 • b ⊕ m2 • c ⊕ m3 • d < 256
+mixed-lt : (m0 m1 m2 m3 a b c d : ℕ) → a < 256 → b < 256 → c < 256 → d < 256
+    → m0 • a ⊕ m1 • b ⊕ m2 • c ⊕ m3 • d < 256
 mixed-lt m0 m1 m2 m3 a b c d ha hb hc hd =
     ⊕-lt 8 (m0 • a ⊕ m1 • b ⊕ m2 • c) (m3 • d)
-    (⊕-lt 8 (m0 • a ⊕ m1 • b) (m2 • c) (⊕-lt 8 (m0 • a) (m1 • b) (•-lt m0 a ha) (•-lt m1 b hb)) (•-lt m2 c hc))
+    (⊕-lt 8 (m0 • a ⊕ m1 • b) (m2 • c) (⊕-lt 8 (m0 • a) (m1 • b) (•-lt m0 a ha) (•-lt m1 b hb))
+    (•-lt m2 c hc))
     (•-lt m3 d hd)
 
 pub mixWith-block : (m0 m1 m2 m3 : ℕ) (s : List ℕ) → Bytes s → Block (mixWith m0 m1 m2 m3 s)
 unfolding mixWith
 mixWith-block m0 m1 m2 m3 s h =
-    state-block (λ i. m0 • at s i ⊕ m1 • at s (below i 1) ⊕ m2 • at s (below i 2) ⊕ m3 • at s (below i 3))
-    (λ i. mixed-lt m0 m1 m2 m3 (at s i) (at s (below i 1)) (at s (below i 2)) (at s (below i 3)) (h .byte _) (h .byte _)
+    state-block (λ i. m0 • at s i ⊕ m1 • at s (below i 1) ⊕ m2 • at s (below i 2) ⊕ m3 • at s
+    (below i 3))
+    (λ i. mixed-lt m0 m1 m2 m3 (at s i) (at s (below i 1)) (at s (below i 2)) (at s (below i 3)) (h .byte _)
+    (h .byte _)
     (h .byte _) (h .byte _))
 
 pub mixColumns-undone : (s : List ℕ) → Bytes s → invMixColumns (mixColumns s) ≡ state (at s)

@@ -14,7 +14,8 @@ at s i = getD s i 0
 -- The state whose byte i is f i; byte i stands in row i mod 4 of column i / 4 (3.4).
 abbrev pub state : (ℕ → ℕ) → List ℕ
 state f =
-    f 0 ∷ f 1 ∷ f 2 ∷ f 3 ∷ f 4 ∷ f 5 ∷ f 6 ∷ f 7 ∷ f 8 ∷ f 9 ∷ f 10 ∷ f 11 ∷ f 12 ∷ f 13 ∷ f 14 ∷ f 15 ∷ []
+    f 0 ∷ f 1 ∷ f 2 ∷ f 3 ∷ f 4 ∷ f 5 ∷ f 6 ∷ f 7 ∷ f 8 ∷ f 9 ∷ f 10 ∷ f 11 ∷ f 12 ∷ f 13
+    ∷ f 14 ∷ f 15 ∷ []
 
 -- Byte r of a word of four bytes, the first one highest (3.5).
 unfoldable pub byteOf : ℕ → ℕ → ℕ

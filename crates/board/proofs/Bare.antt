@@ -35,7 +35,8 @@ function f =
     wrapper 5 5 (fourLent []) (fourAgain [])
     (copying 7 (lendingFour 8 (seq (call f (passed (7 ∷ 9 ∷ 11 ∷ 13 ∷ 15 ∷ [])) (place 6 [])) (storing 6))))
 
-module _ {M : Type 1} (𝓤 : URA M) (H : Heap 𝓤) (A : Atoms 𝓤) (W : Given 𝓤 H A) (C : Calls 𝓤 H) (Λ : Loops 𝓤 H)
+module _ {M : Type 1} (𝓤 : URA M) (H : Heap 𝓤) (A : Atoms 𝓤) (W : Given 𝓤 H A) (C : Calls 𝓤 H)
+    (Λ : Loops 𝓤 H)
     (fm : FmC 𝓤 H (W .laws) C) (f : Name) (c : Passing 𝓤) where
   walk : (s₁ s₂ s₃ s₄ : Sliced) → Asks 𝓤 H A c C f (val s₁ ∷ val s₂ ∷ val s₃ ∷ val s₄ ∷ [])
       → Gives 𝓤 H A c C Λ (function f) (val s₁ ∷ val s₂ ∷ val s₃ ∷ val s₄ ∷ [])
@@ -62,10 +63,12 @@ module _ {M : Type 1} (𝓤 : URA M) (H : Heap 𝓤) (A : Atoms 𝓤) (W : Given
 
 -- ---- the contracts: the callee's other parameters, the wrapper's, and one promise of both
 abbrev callees : List (Slot 4)
-callees = SliceRefMut 0 tt u8 tt ∷ SliceRefMut 1 tt u8 tt ∷ SliceRefMut 2 tt u8 tt ∷ SliceRefMut 3 tt u32 tt ∷ []
+callees = SliceRefMut 0 tt u8 tt ∷ SliceRefMut 1 tt u8 tt ∷ SliceRefMut 2 tt u8 tt ∷ SliceRefMut 3 tt u32 tt
+    ∷ []
 
 abbrev wrappers : List (Slot 5)
-wrappers = SliceRefMut 1 tt u8 tt ∷ SliceRefMut 2 tt u8 tt ∷ SliceRefMut 3 tt u8 tt ∷ SliceRefMut 4 tt u32 tt ∷ []
+wrappers = SliceRefMut 1 tt u8 tt ∷ SliceRefMut 2 tt u8 tt ∷ SliceRefMut 3 tt u8 tt ∷ SliceRefMut 4 tt u32 tt
+    ∷ []
 
 abbrev Others : Type 0
 Others = RefT (List ℕ) × (RefT (List ℕ) × (RefT (List ℕ) × (RefT (List ℕ) × Unit {0})))
@@ -75,9 +78,11 @@ module _ (Φ : Lent → Report → Lent → Type 0) where
   promised a e p p′ x = Φ (handed p (a .0) (a .1 .0) (a .1 .1 .0) (a .1 .1 .1 .0)) x
       (handed p′ (e .0) (e .1 .0) (e .1 .1 .0) (e .1 .1 .1 .0))
 
-  pub meets : {M : Type 1} (𝓤 : URA M) (H : Heap 𝓤) (A : Atoms 𝓤) (W : Given 𝓤 H A) (𝓣 : Tables 𝓤 H) (f : Name)
+  pub meets : {M : Type 1} (𝓤 : URA M) (H : Heap 𝓤) (A : Atoms 𝓤) (W : Given 𝓤 H A) (𝓣 : Tables 𝓤 H)
+      (f : Name)
       → Triple 𝓤 (𝓣 .C f) (tripleOf 𝓤 H A (inner 4 callees) (Inside 𝓤 H A 4 callees (λ κs. promised)))
-      → Meets 𝓤 H A (outer 4 wrappers) (WpFn 𝓤 H (𝓣 .C) (𝓣 .Λ) (function f)) (Outside 𝓤 H A 4 wrappers (λ κs. promised))
+      → Meets 𝓤 H A (outer 4 wrappers) (WpFn 𝓤 H (𝓣 .C) (𝓣 .Λ) (function f))
+      (Outside 𝓤 H A 4 wrappers (λ κs. promised))
   meets 𝓤 H A W 𝓣 f known =
       wraps 𝓤 H A 4 wrappers (λ κs. promised) (𝓣 .C) (𝓣 .Λ) (function f)
       (λ κs. four slice-vals slice-vals slice-vals slice-vals tt)
@@ -88,7 +93,8 @@ module _ (Φ : Lent → Report → Lent → Type 0) where
       let us : Valss (typesAt callees (κs .1)) =
       four (slice-vals (a .1 .0)) (slice-vals (a .1 .1 .0)) (slice-vals (a .1 .1 .1 .0)) (slice-vals (a .1 .1 .1 .1 .0))
       tt in
-      walk 𝓤 H A W (𝓣 .C) (𝓣 .Λ) (fmOf 𝓤 H (W .laws) 𝓣) f (passing 𝓤 H A 4 callees (λ κs. promised) (κs .0) (qs .0)
+      walk 𝓤 H A W (𝓣 .C) (𝓣 .Λ) (fmOf 𝓤 H (W .laws) 𝓣) f
+      (passing 𝓤 H A 4 callees (λ κs. promised) (κs .0) (qs .0)
       (a .0) (κs .1) (qs .1) (a .1) us)
       (sliced (a .1 .0) (are .1 .0 .0 .1 .0)) (sliced (a .1 .1 .0) (are .1 .1 .0 .0 .1 .0))
       (sliced (a .1 .1 .1 .0) (are .1 .1 .1 .0 .0 .1 .0)) (sliced (a .1 .1 .1 .1 .0) (are .1 .1 .1 .1 .0 .0 .1 .0))

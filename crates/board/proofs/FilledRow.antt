@@ -43,7 +43,8 @@ abbrev pub rowAt : Placement → List ℕ → ℕ → LineRecord
 rowAt P dir i = rowOf (P .look dir i)
 
 module _ (P : Placement) (dir : List ℕ) where
-  filled-from : (p : ℕ) (f : ℕ → LineRecord) (ys : List LineRecord) → ((i : ℕ) → f i ≡ rowAt P dir (p + i))
+  filled-from : (p : ℕ) (f : ℕ → LineRecord) (ys : List LineRecord)
+      → ((i : ℕ) → f i ≡ rowAt P dir (p + i))
       → written f (length ys) ys ≡ map rowOf (entriesFrom P dir (length ys) p)
   unfolding entriesFrom
   filled-from p f [] e = refl
@@ -112,7 +113,8 @@ module _ (l : Lent) (ys : List LineRecord) where
 
   -- no more records are filled than there are
   pub plan-within : (k : Plan) → Plans (refused (length ys)) (length ys) k → k .count ≤ length ys
-  plan-within k plan = subst (λ (c : ℕ). c ≤ length ys) (sym (plan .filled)) (by-bool (eqb (refused (length ys)) 0))
+  plan-within k plan = subst (λ (c : ℕ). c ≤ length ys) (sym (plan .filled))
+      (by-bool (eqb (refused (length ys)) 0))
     where
       by-bool : (t : Bool) → if t (length ys) 0 ≤ length ys
       by-bool true = le-refl (length ys)

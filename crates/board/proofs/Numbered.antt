@@ -35,12 +35,16 @@ use Rattle.board.proofs.Wrapper.{inner, outer, Inside, Outside, passing
 abbrev pub function : Name → Fn
 function f =
     wrapper 5 6 (fourLent (tyInt w64 ∷ [])) (fourAgain [])
-    (copying 8 (lendingFour 9 (seq (call f (passed (8 ∷ 10 ∷ 12 ∷ 14 ∷ 16 ∷ 6 ∷ [])) (place 7 [])) (storing 7))))
+    (copying 8 (lendingFour 9 (seq (call f (passed (8 ∷ 10 ∷ 12 ∷ 14 ∷ 16 ∷ 6 ∷ [])) (place 7 []))
+    (storing 7))))
 
-module _ {M : Type 1} (𝓤 : URA M) (H : Heap 𝓤) (A : Atoms 𝓤) (W : Given 𝓤 H A) (C : Calls 𝓤 H) (Λ : Loops 𝓤 H)
+module _ {M : Type 1} (𝓤 : URA M) (H : Heap 𝓤) (A : Atoms 𝓤) (W : Given 𝓤 H A) (C : Calls 𝓤 H)
+    (Λ : Loops 𝓤 H)
     (fm : FmC 𝓤 H (W .laws) C) (f : Name) (c : Passing 𝓤) where
-  walk : (s₁ s₂ s₃ s₄ : Sliced) (n : ℕ) → n < 2 ^ 64 → Asks 𝓤 H A c C f (val s₁ ∷ val s₂ ∷ val s₃ ∷ val s₄
-      ∷ vint w64 n ∷ []) → Gives 𝓤 H A c C Λ (function f) (val s₁ ∷ val s₂ ∷ val s₃ ∷ val s₄ ∷ vint w64 n ∷ [])
+  walk : (s₁ s₂ s₃ s₄ : Sliced) (n : ℕ) → n < 2 ^ 64
+      → Asks 𝓤 H A c C f (val s₁ ∷ val s₂ ∷ val s₃ ∷ val s₄
+      ∷ vint w64 n ∷ []) → Gives 𝓤 H A c C Λ (function f) (val s₁ ∷ val s₂ ∷ val s₃ ∷ val s₄
+      ∷ vint w64 n ∷ [])
   walk s₁ s₂ s₃ s₄ n fits met =
       via 𝓤 (⋆ 𝓤 H A (apart 𝓤 H A c)) (starts 𝓤 H A c W)
       (qed W (apart 𝓤 H A c) ∵ enter ! C Λ (function f) _ _ $
@@ -80,9 +84,11 @@ module _ (Φ : ℕ → Lent → Report → Lent → Type 0) where
   promised a e p p′ x = Φ (a .1 .1 .1 .1 .0) (handed p (a .0) (a .1 .0) (a .1 .1 .0) (a .1 .1 .1 .0)) x
       (handed p′ (e .0) (e .1 .0) (e .1 .1 .0) (e .1 .1 .1 .0))
 
-  pub meets : {M : Type 1} (𝓤 : URA M) (H : Heap 𝓤) (A : Atoms 𝓤) (W : Given 𝓤 H A) (𝓣 : Tables 𝓤 H) (f : Name)
+  pub meets : {M : Type 1} (𝓤 : URA M) (H : Heap 𝓤) (A : Atoms 𝓤) (W : Given 𝓤 H A) (𝓣 : Tables 𝓤 H)
+      (f : Name)
       → Triple 𝓤 (𝓣 .C f) (tripleOf 𝓤 H A (inner 4 callees) (Inside 𝓤 H A 4 callees (λ κs. promised)))
-      → Meets 𝓤 H A (outer 4 wrappers) (WpFn 𝓤 H (𝓣 .C) (𝓣 .Λ) (function f)) (Outside 𝓤 H A 4 wrappers (λ κs. promised))
+      → Meets 𝓤 H A (outer 4 wrappers) (WpFn 𝓤 H (𝓣 .C) (𝓣 .Λ) (function f))
+      (Outside 𝓤 H A 4 wrappers (λ κs. promised))
   meets 𝓤 H A W 𝓣 f known =
       wraps 𝓤 H A 4 wrappers (λ κs. promised) (𝓣 .C) (𝓣 .Λ) (function f)
       (λ κs. four slice-vals slice-vals slice-vals slice-vals (uint-vals w64, tt))
@@ -93,7 +99,8 @@ module _ (Φ : ℕ → Lent → Report → Lent → Type 0) where
       let us : Valss (typesAt callees (κs .1)) =
       four (slice-vals (a .1 .0)) (slice-vals (a .1 .1 .0)) (slice-vals (a .1 .1 .1 .0)) (slice-vals (a .1 .1 .1 .1 .0))
       (uint-vals w64 (a .1 .1 .1 .1 .1 .0), tt) in
-      walk 𝓤 H A W (𝓣 .C) (𝓣 .Λ) (fmOf 𝓤 H (W .laws) 𝓣) f (passing 𝓤 H A 4 callees (λ κs. promised) (κs .0) (qs .0)
+      walk 𝓤 H A W (𝓣 .C) (𝓣 .Λ) (fmOf 𝓤 H (W .laws) 𝓣) f
+      (passing 𝓤 H A 4 callees (λ κs. promised) (κs .0) (qs .0)
       (a .0) (κs .1) (qs .1) (a .1) us)
       (sliced (a .1 .0) (are .1 .0 .0 .1 .0)) (sliced (a .1 .1 .0) (are .1 .1 .0 .0 .1 .0))
       (sliced (a .1 .1 .1 .0) (are .1 .1 .1 .0 .0 .1 .0)) (sliced (a .1 .1 .1 .1 .0) (are .1 .1 .1 .1 .0 .0 .1 .0))

@@ -8,7 +8,8 @@ use base.Logic.{SProp, ent, sep, ex}
 use base.Fml.{Lft, Share, Fml, ftrue, fsep, flft, fres}
 use prog.Wp.{Heap, Calls, Loops, WpFn}
 use ghost.Atoms.{Atoms, sem}
-use types.Kit.{Given, Item, ‵, raw, _⊛_, some, mean, ⋆, _$_, _∵_, !, qed, move, keep, drop, use1, split, join, pick}
+use types.Kit.{Given, Item, ‵, raw, _⊛_, some, mean, ⋆, _$_, _∵_, !, qed, move, keep, drop, use1, split, join}
+use types.Kit.{pick}
 use types.Kit.{fsplit, fsplit3, fjoin, updating, now as at-once, show, frame, done}
 use denote.Laws.{Is}
 use denote.Ref.{RefT, MutRef, ptr-vals}
@@ -50,7 +51,8 @@ module _ {M : Type 1} (𝓤 : URA M) (H : Heap 𝓤) (A : Atoms 𝓤) (c : Passi
 
   -- what the callee asks, which has no `requires`, and what it says of its answer
   abbrev pub asked : Item 𝓤
-  asked = (raw (c .toks) ⊛ ‵ (fsep (P.the-row .own (c .lent .now) (recordVal (c .lent .now) ∷ [])) (c .own))) ⊛ ‵ ftrue
+  asked = (raw (c .toks) ⊛ ‵ (fsep (P.the-row .own (c .lent .now) (recordVal (c .lent .now) ∷ [])) (c .own))) ⊛
+      ‵ ftrue
 
   abbrev pub Says : Answer → SProp 𝓤
   Says r = ex 𝓤 (λ (ws : Unit {0} × c .Last). sep 𝓤 (sem 𝓤 H A (fsep ftrue (c .lasts (ws .1))))
@@ -58,11 +60,13 @@ module _ {M : Type 1} (𝓤 : URA M) (H : Heap 𝓤) (A : Atoms 𝓤) (c : Passi
 
   -- what the wrapper has at exit, with the record's last value for the answer's record
   abbrev Promised : Report → Processor × c .Last → SProp 𝓤
-  Promised y ws = sep 𝓤 (sem 𝓤 H A (fsep (fres (c .lent .name) (P.the-row .coded .code (ws .0))) (c .lasts (ws .1))))
+  Promised y ws = sep 𝓤 (sem 𝓤 H A (fsep (fres (c .lent .name) (P.the-row .coded .code (ws .0)))
+      (c .lasts (ws .1))))
       (c .promise (ws .0) y (ws .1))
 
   abbrev AtExit : Val → Report → SProp 𝓤
-  AtExit v y = sep 𝓤 (sep 𝓤 (sep 𝓤 (A .lft (c .lft) (c .share)) (c .toks)) (sem 𝓤 H A (R.the-row .own y (v ∷ []))))
+  AtExit v y = sep 𝓤 (sep 𝓤 (sep 𝓤 (A .lft (c .lft) (c .share)) (c .toks))
+      (sem 𝓤 H A (R.the-row .own y (v ∷ []))))
       (ex 𝓤 (Promised y))
 
   abbrev pub HandedBack : Val → SProp 𝓤
@@ -71,7 +75,8 @@ module _ {M : Type 1} (𝓤 : URA M) (H : Heap 𝓤) (A : Atoms 𝓤) (c : Passi
   -- the callee f meets its contract at the machine values vs of the other arguments, and the function meets the
   -- wrapper's
   abbrev pub Asks : Calls 𝓤 H → Name → List Val → Type 1
-  Asks C f vs = ent 𝓤 (mean 𝓤 H A asked) (C f (recordVal (c .lent .now) ∷ vs) (Answered 𝓤 H A (c .toks) Says))
+  Asks C f vs = ent 𝓤 (mean 𝓤 H A asked)
+      (C f (recordVal (c .lent .now) ∷ vs) (Answered 𝓤 H A (c .toks) Says))
 
   abbrev pub Gives : Calls 𝓤 H → Loops 𝓤 H → Fn → List Val → Type 1
   Gives C Λ f vs = ent 𝓤 Handed (WpFn 𝓤 H C Λ f (vptr (c .lent .ptr .0) (c .lent .ptr .1) ∷ vs) HandedBack)
@@ -96,5 +101,6 @@ module _ {M : Type 1} (𝓤 : URA M) (H : Heap 𝓤) (A : Atoms 𝓤) (c : Passi
         -- [what says the last values; the promise; the record's last value; the borrow; the token; the tokens]
         owned ! R.the-row (Is R.the-row) (LL.makes R.the-type R′.the-plain 𝓤 H A) (r .report) _ is $
         move ! (5 ∷ 6 ∷ 0 ∷ []) $ join ! $ join ! $ frame ! $
-        show ! (Promised (r .report)) (r .processor, ws .1) $ move ! (2 ∷ 0 ∷ []) $ fjoin ! $ keep ! (0 ∷ 1 ∷ []) $
+        show ! (Promised (r .report)) (r .processor, ws .1) $ move ! (2 ∷ 0 ∷ []) $ fjoin ! $ keep !
+        (0 ∷ 1 ∷ []) $
         done !)

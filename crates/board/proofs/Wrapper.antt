@@ -133,7 +133,8 @@ outer n ts = record {
 
 -- a promise of the other arguments, on entry and at exit, of the record before and after, and of the report
 abbrev pub Promising : (n : ℕ) → List (Slot n) → Type 1
-Promising n ts = (κs : Lfts n) → Denots (typesAt ts κs) → Outs κs ts (all yes ts) → Processor → Processor → Report
+Promising n ts = (κs : Lfts n) → Denots (typesAt ts κs) → Outs κs ts (all yes ts) → Processor → Processor
+    → Report
     → Type 0
 
 module _ {M : Type 1} (𝓤 : URA M) (H : Heap 𝓤) (A : Atoms 𝓤) (n : ℕ) where
@@ -156,7 +157,8 @@ module _ {M : Type 1} (𝓤 : URA M) (H : Heap 𝓤) (A : Atoms 𝓤) (n : ℕ) 
       }
 
   module _ (ts : List (Slot n)) (Ψ : Promising n ts) where
-    abbrev pub passing : Lft → Share → RefT Processor → (κs : Lfts n) → Shares n → (a : Denots (typesAt ts κs))
+    abbrev pub passing : Lft → Share → RefT Processor → (κs : Lfts n) → Shares n
+        → (a : Denots (typesAt ts κs))
         → Valss (typesAt ts κs) → Passing 𝓤
     passing κ q x κs qs a vss = record {
       lft = κ;

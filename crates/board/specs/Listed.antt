@@ -30,4 +30,5 @@ listingOf l rows = listing documentBoard (machineIn l) (replicate rows empty)
 -- was lent.
 pub record Lists (l : Lent) (rows : List LineRecord) (x : Report) (rows′ : List LineRecord) : Type 0 where
   pub reported : Reports (listingOf l (length rows) .answer) noCounts x
-  pub filled : rows′ ≡ if (eqb (listingOf l (length rows) .answer) 0) (map rowOf (listingOf l (length rows) .row)) rows
+  pub filled : rows′ ≡ if (eqb (listingOf l (length rows) .answer) 0) (map rowOf (listingOf l (length rows) .row))
+      rows

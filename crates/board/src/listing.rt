@@ -45,7 +45,8 @@ pub extern "C" fn hq_list_slots(
     dir: &[u32],
     rows: &mut [LineRecord],
 ) -> Report
-    ensures { λ x. ⌜ Lists (before (now (p .entry)) mem macs cache dir) (now (rows .entry)) x (now (rows .exit)) ⌝ }
+    ensures { λ x. ⌜ Lists (before (now (p .entry)) mem macs cache dir) (now (rows .entry)) x
+        (now (rows .exit)) ⌝ }
 {
     let a = planned(*p, mem, macs, cache, dir, rows.len());
     let mut i = 0;

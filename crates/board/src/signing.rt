@@ -9,7 +9,8 @@ ghost use Rattle.depot.specs.Answer.{gave};
 // Signs a code line: the MAC of its first 48 bytes goes into its last 16.
 #[no_mangle]
 pub extern "C" fn hq_depot_sign(hi: u64, lo: u64, address: u64, line: &mut [u8]) -> u32
-    ensures { λ r. ⌜ gave r (now (line .exit)) [] ≡ depotSign aesCipher (drkOf hi lo) address (now (line .entry)) ⌝ }
+    ensures { λ r. ⌜ gave r (now (line .exit)) [] ≡ depotSign aesCipher (drkOf hi lo) address (now (line .entry))
+        ⌝ }
 {
     depot::sign(hi, lo, address, line)
 }

@@ -57,7 +57,8 @@ pub fn write(
 ) -> Counts
     requires { ⌜ Fit (lent hi lo (now mem) (now macs) (now cache) (now dir)) ⌝ }
     requires { ⌜ (n < length (now mem) / 64) × (length (now line) ≡ 64) ⌝ }
-    ensures { λ r. ⌜ Handles (busWrite n (now (line .entry))) (before hi lo mem macs cache dir) (some []) (countsIn r)
+    ensures { λ r. ⌜ Handles (busWrite n (now (line .entry))) (before hi lo mem macs cache dir) (some [])
+        (countsIn r)
         (after hi lo mem macs cache dir) ⌝ }
 {
     let k = whole::drop_line(hi, lo, mem, macs, cache, dir, n);

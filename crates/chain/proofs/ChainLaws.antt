@@ -23,7 +23,8 @@ use Rattle.aes_standard.specs.Chain.{chained, unchained, absorbed, lastOfChain,
 use Rattle.rounds.proofs.StoreLaws.{state-partAt}
 
 -- what stands before and behind a part that was replaced
-pub take-putAt : (a k : ℕ) (x l : List ℕ) → length x ≡ k → a ≤ length l → take (a + k) (putAt a k x l) ≡ take a l ++ x
+pub take-putAt : (a k : ℕ) (x l : List ℕ) → length x ≡ k → a ≤ length l
+    → take (a + k) (putAt a k x l) ≡ take a l ++ x
 unfolding putAt
 take-putAt a k x l e h =
     ap (take (a + k)) (sym (append-assoc (take a l) x (drop k (drop a l))))
@@ -39,7 +40,8 @@ drop-putAt a k x l e h =
     (length-append (take a l) x ∙ ap₂ _+_ (length-take-le a l h) e)
 
 -- the front of a buffer, and what f makes of the rest: the same after one more block c, where f takes c off
-after-advance : (f g : List ℕ → List ℕ) (i : ℕ) (l c : List ℕ) → length c ≡ 16 → i * 16 + 16 ≤ length l
+after-advance : (f g : List ℕ → List ℕ) (i : ℕ) (l c : List ℕ) → length c ≡ 16
+    → i * 16 + 16 ≤ length l
     → f (drop (i * 16) l) ≡ c ++ g (drop 16 (drop (i * 16) l))
     → take (i * 16) l ++ f (drop (i * 16) l)
     ≡ take ((i + 1) * 16) (putAt (i * 16) 16 c l) ++ g (drop ((i + 1) * 16) (putAt (i * 16) 16 c l))
@@ -57,10 +59,12 @@ pub record After (i : ℕ) (answer whole l : List ℕ) (rest : List ℕ → List
   pub size : length l ≡ length whole
   pub is : answer ≡ take (i * 16) l ++ rest (drop (i * 16) l)
 
-pub after-none : (n : ℕ) (l : List ℕ) (rest : ℕ → List ℕ → List ℕ) → After 0 (rest n l) l l (rest (n - 0))
+pub after-none : (n : ℕ) (l : List ℕ) (rest : ℕ → List ℕ → List ℕ)
+    → After 0 (rest n l) l l (rest (n - 0))
 after-none n l rest = rw (sub-zero n) (record { size = refl; is = refl })
 
-pub after-more : (i n : ℕ) (answer whole l c l' : List ℕ) (f g : List ℕ → List ℕ) → i < n → n ≡ length whole / 16
+pub after-more : (i n : ℕ) (answer whole l c l' : List ℕ) (f g : List ℕ → List ℕ) → i < n
+    → n ≡ length whole / 16
     → length c ≡ 16
     → l' ≡ putAt (i * 16) 16 c l → f (drop (i * 16) l) ≡ c ++ g (drop 16 (drop (i * 16) l))
     → After i answer whole l f → After (i + 1) answer whole l' g
@@ -71,10 +75,12 @@ after-more i n answer whole l c l' f g lt blocks e put step before =
       is = before .is ∙ after-advance f g i l c e fits step;
     })
 
-pub after-all : (i : ℕ) (answer whole l : List ℕ) (rest : List ℕ → List ℕ) → ((r : List ℕ) → rest r ≡ r)
+pub after-all : (i : ℕ) (answer whole l : List ℕ) (rest : List ℕ → List ℕ)
+    → ((r : List ℕ) → rest r ≡ r)
     → After i answer whole l rest → l ≡ answer
 after-all i answer whole l rest none h =
-    sym (h .is ∙ ap (λ (r : List ℕ). take (i * 16) l ++ r) (none (drop (i * 16) l)) ∙ take-append-drop (i * 16) l)
+    sym (h .is ∙ ap (λ (r : List ℕ). take (i * 16) l ++ r) (none (drop (i * 16) l))
+    ∙ take-append-drop (i * 16) l)
 
 -- one block of each chain
 pub chained-one : (w : List ℕ) (n i : ℕ) (before l c : List ℕ) → i < n
@@ -85,9 +91,11 @@ chained-one w n i before l c lt e =
     let less : n - i ≡ suc (n - (i + 1)) = omega arith in
     rw (less, e)
 
-pub unchained-one : (inv : List ℕ → List ℕ) (n i : ℕ) (before l c p : List ℕ) → i < n → c ≡ partAt (i * 16) 16 l
+pub unchained-one : (inv : List ℕ → List ℕ) (n i : ℕ) (before l c p : List ℕ) → i < n
+    → c ≡ partAt (i * 16) 16 l
     → p ≡ plus (inv (partAt (i * 16) 16 l)) before
-    → unchained inv (n - i) before (drop (i * 16) l) ≡ p ++ unchained inv (n - (i + 1)) c (drop 16 (drop (i * 16) l))
+    → unchained inv (n - i) before (drop (i * 16) l) ≡ p
+    ++ unchained inv (n - (i + 1)) c (drop 16 (drop (i * 16) l))
 unfolding unchained partAt
 unchained-one inv n i before l c p lt e f =
     let less : n - i ≡ suc (n - (i + 1)) = omega arith in
@@ -107,11 +115,13 @@ pub chained-none : (w : List ℕ) (n i : ℕ) (before r : List ℕ) → i ≡ n 
 unfolding chained
 chained-none w n i before r e = let none : n - i ≡ 0 = omega arith in rw none
 
-pub unchained-none : (inv : List ℕ → List ℕ) (n i : ℕ) (before r : List ℕ) → i ≡ n → unchained inv (n - i) before r ≡ r
+pub unchained-none : (inv : List ℕ → List ℕ) (n i : ℕ) (before r : List ℕ) → i ≡ n
+    → unchained inv (n - i) before r ≡ r
 unfolding unchained
 unchained-none inv n i before r e = let none : n - i ≡ 0 = omega arith in rw none
 
-pub absorbed-none : (w : List ℕ) (n i : ℕ) (before r : List ℕ) → i ≡ n → absorbed w (n - i) before r ≡ before
+pub absorbed-none : (w : List ℕ) (n i : ℕ) (before r : List ℕ) → i ≡ n
+    → absorbed w (n - i) before r ≡ before
 unfolding absorbed
 absorbed-none w n i before r e = let none : n - i ≡ 0 = omega arith in rw none
 
@@ -127,20 +137,24 @@ unfolding unchained plus
 unchained-from inv zero iv l = refl
 unchained-from inv (suc n) iv l = refl
 
-pub absorbed-from : (w : List ℕ) (n : ℕ) (iv l : List ℕ) → 0 < n → absorbed w n (state (at iv)) l ≡ absorbed w n iv l
+pub absorbed-from : (w : List ℕ) (n : ℕ) (iv l : List ℕ) → 0 < n → absorbed w n (state (at iv)) l ≡ absorbed
+    w n iv l
 unfolding absorbed plus
 absorbed-from w zero iv l h = absurd (omega arith)
 absorbed-from w (suc n) iv l h = refl
 
 -- the code's way to the next block of a chain
-pub link-is : (w l : List ℕ) (k : ℕ) (before x y r : List ℕ) → k + 16 ≤ length l → x ≡ state (λ i. at l (k + i))
+pub link-is : (w l : List ℕ) (k : ℕ) (before x y r : List ℕ) → k + 16 ≤ length l
+    → x ≡ state (λ i. at l (k + i))
     → y ≡ state (λ i. at before i ⊕ at x i) → r ≡ cipher w y → r ≡ cipher w (plus before (partAt k 16 l))
 unfolding plus
-link-is w l k before x y r h load add run = run ∙ ap (cipher w) (add ∙ ap (plus before) (load ∙ state-partAt l k h))
+link-is w l k before x y r h load add run = run
+    ∙ ap (cipher w) (add ∙ ap (plus before) (load ∙ state-partAt l k h))
 
 -- the code's way back from a block of a chain: its words, the second and the fourth changed about, plus those of the
 -- block before
-pub unlink-is : (v l x : List ℕ) (k : ℕ) (z before : Columns) → k + 16 ≤ length l → x ≡ state (λ i. at l (k + i))
+pub unlink-is : (v l x : List ℕ) (k : ℕ) (z before : Columns) → k + 16 ≤ length l
+    → x ≡ state (λ i. at l (k + i))
     → flipped (blockOf z) ≡ eqInvCipher v x
     → fourWords (z .a ⊕ before .a) (z .d ⊕ before .b) (z .c ⊕ before .c) (z .b ⊕ before .d)
     ≡ plus (eqInvCipher v (partAt k 16 l)) (blockOf before)

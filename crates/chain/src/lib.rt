@@ -19,7 +19,8 @@ ghost use Rattle.rounds.specs.Words.{blockOf};
 fn link(t: &[u32; 256], w: &[u32; 44], before: Columns, b: &[u8], k: usize) -> Columns
     requires { ⌜ Table 256 mixedEntry (now t) ⌝ }
     requires { ⌜ k + 16 ≤ length (now b) ⌝ }
-    ensures { λ r. ⌜ blockOf r ≡ cipher (now (w .entry)) (plus (blockOf before) (partAt k 16 (now (b .entry)))) ⌝ }
+    ensures { λ r. ⌜ blockOf r
+        ≡ cipher (now (w .entry)) (plus (blockOf before) (partAt k 16 (now (b .entry)))) ⌝ }
 {
     let x = columns::plus(before, columns::columns_at(b, k));
     ways::through(t, t, w, x)
@@ -77,7 +78,8 @@ pub fn encrypt(w: &[u32; 44], iv: &[u8; 16], b: &mut [u8])
 
 // CBC decryption of all whole blocks of b, in place, under a key.
 pub fn decrypt(key: &[u8; 16], iv: &[u8; 16], b: &mut [u8])
-    ensures { λ _. ⌜ now (b .exit) ≡ cbcDecrypt (keyExpansion (now (key .entry))) (now (iv .entry)) (now (b .entry)) ⌝ }
+    ensures { λ _. ⌜ now (b .exit) ≡ cbcDecrypt (keyExpansion (now (key .entry))) (now (iv .entry))
+        (now (b .entry)) ⌝ }
 {
     let w = schedule::expand(key);
     let v = schedule::invert(&w);

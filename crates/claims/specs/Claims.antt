@@ -21,7 +21,8 @@ use Rattle.ciphers.specs.Cipher.{aesCipher}
 abbrev pub Demand3 : Type 0
 Demand3 =
     (drk mem macs : List ℕ) (before : Processor) (C : ℕ)
-    → Sized 16 drk → Bytes mem → sizeFine (length mem) ≡ true → length macs ≡ length mem / 4 → 1 ≤ C → C ≤ 64
+    → Sized 16 drk → Bytes mem → sizeFine (length mem) ≡ true → length macs ≡ length mem / 4 → 1 ≤ C
+    → C ≤ 64
     → (calls : List Call) → LentBytes calls
     → AlwaysSame documentBoard aesCipher calls
     (record { processor = reset documentBoard before; memory = record { key = drk; mem = mem; macs = macs } })

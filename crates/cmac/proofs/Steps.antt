@@ -20,7 +20,8 @@ use Rattle.cmac.specs.Subkeys.{shifted, lastByte, doubled, Shifted, subk
 use Rattle.cmac.specs.Cmac.{beforeLast, padded, lastBlock, cmac}
 
 -- the code's sum of two blocks
-pub summed : (a b x y r : List ℕ) → x ≡ state (at a) → y ≡ state (at b) → r ≡ state (λ i. at x i ⊕ at y i)
+pub summed : (a b x y r : List ℕ) → x ≡ state (at a) → y ≡ state (at b)
+    → r ≡ state (λ i. at x i ⊕ at y i)
     → r ≡ plus a b
 unfolding plus
 summed a b x y r load load' add = add ∙ ap₂ plus load load'
@@ -57,7 +58,8 @@ pub doubled-is : (l : List ℕ) (x y : Columns) → blockOf x ≡ state (at l) �
 unfolding doubled shifted
 doubled-is l x y load p q r s =
     last-added y (x .a / 2147483648 % 2 * 0x87) (omega arith)
-    ∙ ap₂ (λ (b : List ℕ) (n : ℕ). plus b (lastByte (n * 0x87))) (four-shifted x y p q r s) (first-digit (x .a))
+    ∙ ap₂ (λ (b : List ℕ) (n : ℕ). plus b (lastByte (n * 0x87))) (four-shifted x y p q r s)
+    (first-digit (x .a))
     ∙ ap doubled load
 
 drop-replicate : (n k : ℕ) → drop n (replicate {A = ℕ} k 0) ≡ replicate (k - n) 0
@@ -73,14 +75,16 @@ copied : (m b : List ℕ) → b ≡ take (length m) m ++ drop (length m) (replic
 copied m b e = e ∙ ap₂ _++_ (take-length m) (drop-replicate (length m) 16)
 
 -- a whole last block
-pub last-whole : (k1 k2 m b r : List ℕ) → length m ≡ 16 → b ≡ take (length m) m ++ drop (length m) (replicate 16 0)
+pub last-whole : (k1 k2 m b r : List ℕ) → length m ≡ 16 → b ≡ take (length m) m
+    ++ drop (length m) (replicate 16 0)
     → r ≡ plus b k1
     → r ≡ lastBlock k1 k2 m
 unfolding lastBlock
 last-whole k1 k2 m b r size copy add =
     let rest : 16 - length m ≡ 0 = omega arith in
     add
-    ∙ ap (λ (l : List ℕ). plus l k1) (copied m b copy ∙ ap (λ (n : ℕ). m ++ replicate {A = ℕ} n 0) rest ∙ append-nil m)
+    ∙ ap (λ (l : List ℕ). plus l k1) (copied m b copy ∙ ap (λ (n : ℕ). m ++ replicate {A = ℕ} n 0) rest
+    ∙ append-nil m)
     ∙ rw (eq-eqb (length m) 16 size)
 
 -- a last block that is padded
@@ -91,7 +95,8 @@ unfolding lastBlock padded zeros
 last-padded k1 k2 m b r small part copy add =
     let rest : 16 - length m ≡ suc (15 - length m) = omega arith in
     add
-    ∙ ap (λ (l : List ℕ). plus (set l (length m) 0x80) k2) (copied m b copy ∙ ap (λ (n : ℕ). m ++ replicate n 0) rest)
+    ∙ ap (λ (l : List ℕ). plus (set l (length m) 0x80) k2) (copied m b copy
+    ∙ ap (λ (n : ℕ). m ++ replicate n 0) rest)
     ∙ ap (λ (l : List ℕ). plus l k2) (set-at m 0 (replicate (15 - length m) 0) 0x80 (length m) refl)
     ∙ rw (ne-eqb (length m) 16 part)
 
@@ -111,7 +116,8 @@ pub signed : (w m k1 before last x r : List ℕ) (n : ℕ) → n ≡ beforeLast 
     → r ≡ cipher w x → r ≡ cmac w m
 unfolding cmac subkey2 zeros
 signed w m k1 before last x r n split key chain end add run =
-    run ∙ ap (cipher w) (add ∙ ap₂ plus (chain ∙ ap (λ (k : ℕ). lastOfChain w (replicate 16 0) (take k m)) split)
+    run ∙ ap (cipher w) (add ∙ ap₂ plus (chain ∙ ap (λ (k : ℕ). lastOfChain w (replicate 16 0) (take k m))
+    split)
     (end ∙ ap (λ (t : List ℕ). lastBlock k1 (doubled k1) t)
     (take-all (length m - n) (drop n m) (rw (length-drop n m) (omega arith)))
     ∙ ap₂ (λ (k : List ℕ) (j : ℕ). lastBlock k (doubled k) (drop j m)) key split))

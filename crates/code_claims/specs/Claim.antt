@@ -79,9 +79,11 @@ withEmptyCache p mem macs C = record { processor = p; mem = mem; macs = macs; ca
 -- type says.)
 abbrev pub Demand3AtTheCode : Type 0
 Demand3AtTheCode =
-    (p : Processor) → AfterReset p → (mem macs : List ℕ) (C : ℕ) → Bytes mem → sizeFine (length mem) ≡ true
+    (p : Processor) → AfterReset p → (mem macs : List ℕ) (C : ℕ) → Bytes mem
+    → sizeFine (length mem) ≡ true
     → length macs ≡ length mem / 4
-    → 1 ≤ C → C ≤ 64 → (calls : List Call) → LentBytes calls → (session : Session calls (withEmptyCache p mem macs C))
+    → 1 ≤ C → C ≤ 64 → (calls : List Call) → LentBytes calls
+    → (session : Session calls (withEmptyCache p mem macs C))
     → AlwaysSame calls (withEmptyCache p mem macs C) session
     (record {
       processor = machineIn (withEmptyCache p mem macs C) .processor;

@@ -22,38 +22,40 @@ use Rattle.sound.proofs.Kept.{calls-keep-acceptable}
 use Rattle.sound.proofs.Bounds.{two-lines, step-bound, run-bound, call-bound}
 use Rattle.demand3.proofs.Calls.{ResultsAlike, called-alike}
 
-module _ (B : Board) (BL : BoardLaws B) (c : Cipher) (CL : CipherLaws c) (N C : ℕ) (slots : B .slotsFine C ≡ true) where
-  -- memories that agree are one once everything is written back
-  one-memory : (u : Uncached) (s : Cached) → Agree c (B .placement) (BL .placement) N C u s → u ≡ writtenBack B c s
-  unfolding writtenBack asItStands
-  one-memory u s A =
-      let t = evictAll c (B .placement) s .state in
-      let D : Agree c (B .placement) (BL .placement) N C u t =
-      all-agrees c CL (B .placement) (BL .placement) N C u s A in
-      let E : AllEmpty (B .placement) (t .dir) = all-empties c CL (B .placement) (BL .placement) N C s in
-      let m = same-mem c CL (B .placement) (BL .placement) N C u t D E in
-      let a = same-macs c CL (B .placement) (BL .placement) N C u t D E in
-      λ i. record { key = D .keys i; mem = m i; macs = a i }
+module _ (B : Board) (BL : BoardLaws B) (c : Cipher) (CL : CipherLaws c) (N C : ℕ) (slots : B .slotsFine C ≡ true)
+  where
+    -- memories that agree are one once everything is written back
+    one-memory : (u : Uncached) (s : Cached) → Agree c (B .placement) (BL .placement) N C u s
+        → u ≡ writtenBack B c s
+    unfolding writtenBack asItStands
+    one-memory u s A =
+        let t = evictAll c (B .placement) s .state in
+        let D : Agree c (B .placement) (BL .placement) N C u t =
+        all-agrees c CL (B .placement) (BL .placement) N C u s A in
+        let E : AllEmpty (B .placement) (t .dir) = all-empties c CL (B .placement) (BL .placement) N C s in
+        let m = same-mem c CL (B .placement) (BL .placement) N C u t D E in
+        let a = same-macs c CL (B .placement) (BL .placement) N C u t D E in
+        λ i. record { key = D .keys i; mem = m i; macs = a i }
 
-  outside : (u : Result Uncached) (s : Result Cached) → ResultsAlike B BL c CL N C slots u s → SameOutside B c u s
-  outside u s R =
-      record {
-        answers = R .answers;
-        steps = R .steps;
-        buffers = R .buffers;
-        processors = R .machines .processors;
-        memories = one-memory (u .machine .memory) (s .machine .memory) (R .machines .memories);
-      }
+    outside : (u : Result Uncached) (s : Result Cached) → ResultsAlike B BL c CL N C slots u s → SameOutside B c u s
+    outside u s R =
+        record {
+          answers = R .answers;
+          steps = R .steps;
+          buffers = R .buffers;
+          processors = R .machines .processors;
+          memories = one-memory (u .machine .memory) (s .machine .memory) (R .machines .memories);
+        }
 
-  -- from any machines that agree
-  pub always-same : (calls : List Call) (u : Machine Uncached) (s : Machine Cached) → LentBytes calls
-      → Agreeing B BL c N C u s → AlwaysSame B c calls u s
-  always-same [] u s no-more G = ended
-  always-same (call ∷ calls) u s (bytes-then b bs) G =
-      let R = called-alike B BL c CL N C slots call u s b G in
-      next (outside (withoutCache B c call u (withCache B c call s)) (withCache B c call s) R)
-      (always-same calls (withoutCache B c call u (withCache B c call s) .machine) (withCache B c call s .machine) bs
-      (R .machines))
+    -- from any machines that agree
+    pub always-same : (calls : List Call) (u : Machine Uncached) (s : Machine Cached) → LentBytes calls
+        → Agreeing B BL c N C u s → AlwaysSame B c calls u s
+    always-same [] u s no-more G = ended
+    always-same (call ∷ calls) u s (bytes-then b bs) G =
+        let R = called-alike B BL c CL N C slots call u s b G in
+        next (outside (withoutCache B c call u (withCache B c call s)) (withCache B c call s) R)
+        (always-same calls (withoutCache B c call u (withCache B c call s) .machine) (withCache B c call s .machine) bs
+        (R .machines))
 
 -- Demand 3
 pub demand3 : Demand3

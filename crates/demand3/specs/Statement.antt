@@ -61,7 +61,8 @@ pub data AlwaysSame (B : Board) (c : Cipher) : List Call → Machine Uncached �
 -- the buffers that are lent are bytes
 pub data LentBytes : List Call → Type 0 where
   no-more : LentBytes []
-  bytes-then : {call : Call} {calls : List Call} → Bytes (bufferOf call) → LentBytes calls → LentBytes (call ∷ calls)
+  bytes-then : {call : Call} {calls : List Call} → Bytes (bufferOf call) → LentBytes calls
+      → LentBytes (call ∷ calls)
 
 -- ---- 1: demand 3
 
@@ -87,7 +88,8 @@ Demand3 =
 abbrev pub Demand3FromReset : Type 0
 Demand3FromReset =
     (c : Cipher) → CipherLaws c → (drk mem macs : List ℕ) (before : Processor) (C : ℕ)
-    → Sized 16 drk → Bytes mem → sizeFine (length mem) ≡ true → length macs ≡ length mem / 4 → 1 ≤ C → C ≤ 64
+    → Sized 16 drk → Bytes mem → sizeFine (length mem) ≡ true → length macs ≡ length mem / 4 → 1 ≤ C
+    → C ≤ 64
     → (calls : List Call) → LentBytes calls
     → AlwaysSame documentBoard c calls
     (record { processor = reset documentBoard before; memory = record { key = drk; mem = mem; macs = macs } })
@@ -154,5 +156,6 @@ RunBound =
 -- no call counts more than this
 abbrev pub CallBound : Type 1
 CallBound =
-    (B : Board) → BoardLaws B → (c : Cipher) → CipherLaws c → (m : Machine Cached) → Acceptable B m → (call : Call)
+    (B : Board) → BoardLaws B → (c : Cipher) → CipherLaws c → (m : Machine Cached) → Acceptable B m
+    → (call : Call)
     → Within 20000 (10000 * (length (m .memory .dir) + 2)) (withCache B c call m .log)

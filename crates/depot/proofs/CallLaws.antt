@@ -42,7 +42,8 @@ module _ (a : ℕ) (line mac : List ℕ) (rest : List (Bool × ℕ)) where
   unfolding depotFlaws bufferFlaws
   flaw-line h g = rw (eq-eqb (a % 64) 0 h, ne-eqb (length line) 64 g)
 
-  pub flaw-mac : a % 64 ≡ 0 → length line ≡ 64 → (length mac ≡ 16 → ⊥) → firstOf (depotFlaws a line mac ++ rest) ≡ 107
+  pub flaw-mac : a % 64 ≡ 0 → length line ≡ 64 → (length mac ≡ 16 → ⊥)
+      → firstOf (depotFlaws a line mac ++ rest) ≡ 107
   unfolding depotFlaws bufferFlaws
   flaw-mac h g f = rw (eq-eqb (a % 64) 0 h, eq-eqb (length line) 64 g, ne-eqb (length mac) 16 f)
 
@@ -61,7 +62,8 @@ module _ (c : Cipher) (key : List ℕ) (a : ℕ) (line : List ℕ) where
       → gave 0 line' [] ≡ depotSign c key a line
   unfolding depotSign bufferFlaws
   sign-done mac line' h g sixteen e copy =
-      ap (λ (l : List ℕ). gave 0 l []) (copy ∙ mac-copied line mac g sixteen ∙ ap (λ (m : List ℕ). take 48 line ++ m) e)
+      ap (λ (l : List ℕ). gave 0 l []) (copy ∙ mac-copied line mac g sixteen
+      ∙ ap (λ (m : List ℕ). take 48 line ++ m) e)
       ∙ rw (eq-eqb (a % 64) 0 h, eq-eqb (length line) 64 g)
 
   -- the sizes of both buffers, and the address, as the meaning tests them
@@ -100,7 +102,8 @@ module _ (c : Cipher) (key : List ℕ) (a : ℕ) (line : List ℕ) where
 
     pub open-done : (line' made : List ℕ) (r : Bool) → a % 64 ≡ 0 → length line ≡ 64 → length mac ≡ 16
         → made ≡ c .dataMac key a line
-        → r ≡ same made mac → r ≡ true → line' ≡ c .decipher key a line → gave 0 line' mac ≡ depotOpen c key a line mac
+        → r ≡ same made mac → r ≡ true → line' ≡ c .decipher key a line
+        → gave 0 line' mac ≡ depotOpen c key a line mac
     unfolding depotOpen depotFlaws bufferFlaws
     open-done line' made r h g f m e right open′ =
         ap (λ (l : List ℕ). gave 0 l mac) open′

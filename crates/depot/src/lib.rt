@@ -12,7 +12,8 @@ ghost use Rattle.depot.specs.Answer.{gave};
 
 // Signs a code line: the MAC of its first 48 bytes goes into its last 16.
 pub fn sign(hi: u64, lo: u64, address: u64, line: &mut [u8]) -> u32
-    ensures { λ r. ⌜ gave r (now (line .exit)) [] ≡ depotSign aesCipher (drkOf hi lo) address (now (line .entry)) ⌝ }
+    ensures { λ r. ⌜ gave r (now (line .exit)) [] ≡ depotSign aesCipher (drkOf hi lo) address (now (line .entry))
+        ⌝ }
 {
     if address % 64 != 0 {
         return 106;

@@ -39,7 +39,8 @@ module _ (f g : ℕ → ℕ) (hf : Additive f) (hg : Additive g) where
   at-digit n (suc zero) lt e = rw one-mul e
   at-digit n (suc (suc d)) lt e = absurd (omega arith)
 
-  below-power : (n : ℕ) → ((i : ℕ) → i < n → f (2 ^ i) ≡ g (2 ^ i)) → (x : ℕ) → x < 2 ^ n → f x ≡ g x
+  below-power : (n : ℕ) → ((i : ℕ) → i < n → f (2 ^ i) ≡ g (2 ^ i)) → (x : ℕ) → x < 2 ^ n
+      → f x ≡ g x
   below-power zero e zero lt = additive-zero f hf ∙ sym (additive-zero g hg)
   below-power zero e (suc x) lt = absurd (omega arith)
   below-power (suc n) e x lt =

@@ -28,14 +28,17 @@ every f i (x ∷ xs) = both (f i x) (every f (suc i) xs)
 from : (f : ℕ → ℕ → Bool) (xs : List ℕ) (i : ℕ) → T (every f i xs) → (k : ℕ) → k < length xs
     → T (f (i + k) (getD xs k 0))
 from f [] i t k h = absurd (not-suc-le-zero h)
-from f (x ∷ xs) i t zero h = subst (λ (m : ℕ). T (f m x)) (sym (add-zero i)) (both-left (f i x) (every f (suc i) xs) t)
+from f (x ∷ xs) i t zero h = subst (λ (m : ℕ). T (f m x)) (sym (add-zero i))
+    (both-left (f i x) (every f (suc i) xs) t)
 from f (x ∷ xs) i t (suc k) h =
     subst (λ (m : ℕ). T (f m (getD xs k 0))) (suc-add i k ∙ sym (add-suc i k))
     (from f xs (suc i) (both-right (f i x) (every f (suc i) xs) t) k (le-of-suc-le-suc h))
 
-pub at : (f : ℕ → ℕ → Bool) (xs : List ℕ) → T (every f 0 xs) → (k : ℕ) → k < length xs → T (f k (getD xs k 0))
+pub at : (f : ℕ → ℕ → Bool) (xs : List ℕ) → T (every f 0 xs) → (k : ℕ) → k < length xs
+    → T (f k (getD xs k 0))
 at f xs t k h = subst (λ (m : ℕ). T (f m (getD xs k 0))) (zero-add k) (from f xs 0 t k h)
 
 -- a test that antt computes at each number below n holds of each
-pub all-below : (n : ℕ) (test : ℕ → Bool) → T (every (λ k x. test k) 0 (replicate n 0)) → (k : ℕ) → k < n → T (test k)
+pub all-below : (n : ℕ) (test : ℕ → Bool) → T (every (λ k x. test k) 0 (replicate n 0)) → (k : ℕ) → k < n
+    → T (test k)
 all-below n test t k h = at (λ k x. test k) (replicate n 0) t k (rw length-replicate h)

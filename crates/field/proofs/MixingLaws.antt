@@ -21,11 +21,13 @@ pub ⊕-turn : (p q r s : ℕ) → p ⊕ q ⊕ r ⊕ s ≡ s ⊕ p ⊕ q ⊕ r
     → (p ⊕ q ⊕ r ⊕ s) ⊕ (p' ⊕ q' ⊕ r' ⊕ s') ≡ (p ⊕ p') ⊕ (q ⊕ q') ⊕ (r ⊕ r') ⊕ (s ⊕ s')
 ⊕-add-four p q r s p' q' r' s' =
     ⊕-swap (p ⊕ q ⊕ r) s (p' ⊕ q' ⊕ r') s'
-    ∙ ap (λ (x : ℕ). x ⊕ (s ⊕ s')) (⊕-swap (p ⊕ q) r (p' ⊕ q') r' ∙ ap (λ (x : ℕ). x ⊕ (r ⊕ r')) (⊕-swap p q p' q'))
+    ∙ ap (λ (x : ℕ). x ⊕ (s ⊕ s')) (⊕-swap (p ⊕ q) r (p' ⊕ q') r'
+    ∙ ap (λ (x : ℕ). x ⊕ (r ⊕ r')) (⊕-swap p q p' q'))
 
 -- a row of sums is the sum of two rows
 pub row-⊕ : (m0 m1 m2 m3 a b c d a' b' c' d' : ℕ)
-    → row m0 m1 m2 m3 (a ⊕ a') (b ⊕ b') (c ⊕ c') (d ⊕ d') ≡ row m0 m1 m2 m3 a b c d ⊕ row m0 m1 m2 m3 a' b' c' d'
+    → row m0 m1 m2 m3 (a ⊕ a') (b ⊕ b') (c ⊕ c') (d ⊕ d') ≡ row m0 m1 m2 m3 a b c d ⊕ row m0 m1 m2 m3 a'
+    b' c' d'
 unfolding row
 row-⊕ m0 m1 m2 m3 a b c d a' b' c' d' =
     ap₂ _⊕_ (ap₂ _⊕_ (ap₂ _⊕_ (•-⊕ m0 a a') (•-⊕ m1 b b')) (•-⊕ m2 c c')) (•-⊕ m3 d d')
@@ -33,8 +35,10 @@ row-⊕ m0 m1 m2 m3 a b c d a' b' c' d' =
 
 -- a row of sums of four is the sum of four rows
 row-four : (n0 n1 n2 n3 a b c d a' b' c' d' a'' b'' c'' d'' e f g h : ℕ)
-    → row n0 n1 n2 n3 (a ⊕ a' ⊕ a'' ⊕ e) (b ⊕ b' ⊕ b'' ⊕ f) (c ⊕ c' ⊕ c'' ⊕ g) (d ⊕ d' ⊕ d'' ⊕ h)
-    ≡ row n0 n1 n2 n3 a b c d ⊕ row n0 n1 n2 n3 a' b' c' d' ⊕ row n0 n1 n2 n3 a'' b'' c'' d'' ⊕ row n0 n1 n2 n3 e f g h
+    → row n0 n1 n2 n3 (a ⊕ a' ⊕ a'' ⊕ e) (b ⊕ b' ⊕ b'' ⊕ f) (c ⊕ c' ⊕ c'' ⊕ g)
+    (d ⊕ d' ⊕ d'' ⊕ h)
+    ≡ row n0 n1 n2 n3 a b c d ⊕ row n0 n1 n2 n3 a' b' c' d' ⊕ row n0 n1 n2 n3 a'' b'' c'' d'' ⊕ row n0 n1 n2 n3
+    e f g h
 row-four n0 n1 n2 n3 a b c d a' b' c' d' a'' b'' c'' d'' e f g h =
     row-⊕ n0 n1 n2 n3 (a ⊕ a' ⊕ a'') (b ⊕ b' ⊕ b'') (c ⊕ c' ⊕ c'') (d ⊕ d' ⊕ d'') e f g h
     ∙ ap (λ (x : ℕ). x ⊕ row n0 n1 n2 n3 e f g h)
@@ -53,12 +57,15 @@ module _ (n0 n1 n2 n3 m0 m1 m2 m3 : ℕ) (undo : UndoRow n0 n1 n2 n3 m0 m1 m2 m3
   row-split : (a b c d : ℕ)
       → row n0 n1 n2 n3 (row m0 m1 m2 m3 a b c d) (row m0 m1 m2 m3 b c d a) (row m0 m1 m2 m3 c d a b)
       (row m0 m1 m2 m3 d a b c)
-      ≡ row n0 n1 n2 n3 (m0 • a) (m3 • a) (m2 • a) (m1 • a) ⊕ row n0 n1 n2 n3 (m1 • b) (m0 • b) (m3 • b) (m2 • b)
-      ⊕ row n0 n1 n2 n3 (m2 • c) (m1 • c) (m0 • c) (m3 • c) ⊕ row n0 n1 n2 n3 (m3 • d) (m2 • d) (m1 • d) (m0 • d)
+      ≡ row n0 n1 n2 n3 (m0 • a) (m3 • a) (m2 • a) (m1 • a) ⊕ row n0 n1 n2 n3 (m1 • b) (m0 • b)
+      (m3 • b) (m2 • b)
+      ⊕ row n0 n1 n2 n3 (m2 • c) (m1 • c) (m0 • c) (m3 • c) ⊕ row n0 n1 n2 n3 (m3 • d) (m2 • d)
+      (m1 • d) (m0 • d)
   unfolding row
   row-split a b c d =
       (λ i. row n0 n1 n2 n3 (row m0 m1 m2 m3 a b c d) (⊕-turn (m0 • b) (m1 • c) (m2 • d) (m3 • a) i)
-      ((⊕-turn (m0 • c) (m1 • d) (m2 • a) (m3 • b) ∙ ⊕-turn (m3 • b) (m0 • c) (m1 • d) (m2 • a)) i)
+      ((⊕-turn (m0 • c) (m1 • d) (m2 • a) (m3 • b) ∙ ⊕-turn (m3 • b) (m0 • c) (m1 • d) (m2 • a))
+      i)
       (sym (⊕-turn (m1 • a) (m2 • b) (m3 • c) (m0 • d)) i))
       ∙ row-four n0 n1 n2 n3 (m0 • a) (m3 • a) (m2 • a) (m1 • a) (m1 • b) (m0 • b) (m3 • b) (m2 • b)
       (m2 • c) (m1 • c) (m0 • c) (m3 • c) (m3 • d) (m2 • d) (m1 • d) (m0 • d)
@@ -68,7 +75,8 @@ module _ (n0 n1 n2 n3 m0 m1 m2 m3 : ℕ) (undo : UndoRow n0 n1 n2 n3 m0 m1 m2 m3
       (row m0 m1 m2 m3 d a b c) ≡ a
   undo-row a b c d ha hb hc hd =
       row-split a b c d
-      ∙ ap₂ _⊕_ (ap₂ _⊕_ (ap₂ _⊕_ (undo .one a ha) (undo .zero1 b hb)) (undo .zero2 c hc)) (undo .zero3 d hd)
+      ∙ ap₂ _⊕_ (ap₂ _⊕_ (ap₂ _⊕_ (undo .one a ha) (undo .zero1 b hb)) (undo .zero2 c hc))
+      (undo .zero3 d hd)
       ∙ ⊕-zero (a ⊕ 0 ⊕ 0) ∙ ⊕-zero (a ⊕ 0) ∙ ⊕-zero a
 
 -- a row times the products of one number
@@ -80,7 +88,8 @@ rowOf-additive n0 n1 n2 n3 m0 m1 m2 m3 =
     record {
       sum = λ x y.
           (λ i. row n0 n1 n2 n3 (•-⊕ m0 x y i) (•-⊕ m1 x y i) (•-⊕ m2 x y i) (•-⊕ m3 x y i))
-          ∙ row-⊕ n0 n1 n2 n3 (m0 • x) (m1 • x) (m2 • x) (m3 • x) (m0 • y) (m1 • y) (m2 • y) (m3 • y);
+          ∙ row-⊕ n0 n1 n2 n3 (m0 • x) (m1 • x) (m2 • x) (m3 • x) (m0 • y) (m1 • y) (m2 • y)
+          (m3 • y);
     }
 
 -- once a byte is the byte

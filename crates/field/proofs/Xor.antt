@@ -43,7 +43,8 @@ unfolding _⊕_
 pub ⊕-swap : (a b c d : ℕ) → (a ⊕ b) ⊕ (c ⊕ d) ≡ (a ⊕ c) ⊕ (b ⊕ d)
 ⊕-swap a b c d =
     ⊕-assoc a b (c ⊕ d)
-    ∙ ap (λ (x : ℕ). a ⊕ x) (sym (⊕-assoc b c d) ∙ ap (λ (x : ℕ). x ⊕ d) (⊕-comm b c) ∙ ⊕-assoc c b d)
+    ∙ ap (λ (x : ℕ). a ⊕ x) (sym (⊕-assoc b c d) ∙ ap (λ (x : ℕ). x ⊕ d) (⊕-comm b c)
+    ∙ ⊕-assoc c b d)
     ∙ sym (⊕-assoc a c (b ⊕ d))
 
 -- adding flipped-flipped takes away again

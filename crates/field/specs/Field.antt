@@ -44,7 +44,8 @@ fromDigits f = f 0 + 2 * f 1 + 4 * f 2 + 8 * f 3 + 16 * f 4 + 32 * f 5 + 64 * f 
 -- The affine map of the S-box, with the constant 63 (5.1.1).
 unfoldable pub affine : ℕ → ℕ
 affine b =
-    fromDigits (λ i. digit b i ⊕ digit b (i + 4) ⊕ digit b (i + 5) ⊕ digit b (i + 6) ⊕ digit b (i + 7) ⊕ digit 0x63 i)
+    fromDigits (λ i. digit b i ⊕ digit b (i + 4) ⊕ digit b (i + 5) ⊕ digit b (i + 6) ⊕ digit b (i + 7)
+    ⊕ digit 0x63 i)
 
 -- The inverse of the affine map, with the constant 5 (5.3.2).
 unfoldable pub invAffine : ℕ → ℕ

@@ -36,7 +36,8 @@ pub record TextTo (i : ℕ) (r m : List ℕ) : Type 0 where
   pub size : length m ≡ 249
   pub is : take (i * 8 - 7) m ++ wordsBytes 8 (drop i r) ≡ 4 ∷ wordsBytes 8 (drop 1 r)
 
-pub text-more : (i : ℕ) (r m a m' : List ℕ) → 1 ≤ i → i < 32 → length r ≡ 32 → a ≡ bigBytes 8 (getD r i 0)
+pub text-more : (i : ℕ) (r m a m' : List ℕ) → 1 ≤ i → i < 32 → length r ≡ 32
+    → a ≡ bigBytes 8 (getD r i 0)
     → m' ≡ putAt (i * 8 - 7) (length a) a m → TextTo i r m → TextTo (i + 1) r m'
 unfolding wordsBytes
 text-more i r m a m' low high size e put before =
@@ -57,7 +58,8 @@ text-more i r m a m' low high size e put before =
           ∙ before .is;
     }
 
-pub text-all : (i : ℕ) (r m : List ℕ) → i ≡ 32 → length r ≡ 32 → TextTo i r m → m ≡ 4 ∷ wordsBytes 8 (drop 1 r)
+pub text-all : (i : ℕ) (r m : List ℕ) → i ≡ 32 → length r ≡ 32 → TextTo i r m → m ≡ 4
+    ∷ wordsBytes 8 (drop 1 r)
 unfolding wordsBytes
 text-all i r m e size h =
     sym (append-nil m)
@@ -70,7 +72,8 @@ pub record StreamTo (j : ℕ) (w h s : List ℕ) : Type 0 where
   pub size : length s ≡ 256
   pub is : take (j * 16) s ++ streamFrom w h (16 - j) j ≡ streamFrom w h 16 0
 
-pub stream-more : (j : ℕ) (w h s b c s' : List ℕ) → j < 16 → c ≡ counted h j → b ≡ cipher w c → length b ≡ 16
+pub stream-more : (j : ℕ) (w h s b c s' : List ℕ) → j < 16 → c ≡ counted h j → b ≡ cipher w c
+    → length b ≡ 16
     → s' ≡ putAt (j * 16) (length b) b s → StreamTo j w h s → StreamTo (j + 1) w h s'
 unfolding streamFrom
 stream-more j w h s b c s' lt count run sixteen put before =
@@ -94,12 +97,14 @@ stream-none : (w h : List ℕ) (j : ℕ) → j ≡ 16 → streamFrom w h (16 - j
 unfolding streamFrom
 stream-none w h j e = let none : 16 - j ≡ 0 = omega arith in rw none
 
-pub stream-all : (drk : List ℕ) (j : ℕ) (k w h s : List ℕ) → j ≡ 16 → k ≡ lineKey drk → w ≡ keyExpansion k
+pub stream-all : (drk : List ℕ) (j : ℕ) (k w h s : List ℕ) → j ≡ 16 → k ≡ lineKey drk
+    → w ≡ keyExpansion k
     → StreamTo j w h s → s ≡ stream drk h
 unfolding stream
 stream-all drk j k w h s e key words to =
     sym (append-nil s)
-    ∙ ap₂ (λ (l q : List ℕ). l ++ q) (sym (take-all (j * 16) s (omega (arith, to .size)))) (sym (stream-none w h j e))
+    ∙ ap₂ (λ (l q : List ℕ). l ++ q) (sym (take-all (j * 16) s (omega (arith, to .size))))
+    (sym (stream-none w h j e))
     ∙ to .is ∙ ap (λ (z : List ℕ). streamFrom z h 16 0) (words ∙ ap keyExpansion key)
 
 -- words under a key stream, one by one
@@ -141,7 +146,8 @@ hidden-more i s r q x low high e h =
           (eq-or-lt-of-le (omega arith));
     }
 
-pub hidden-all : (i : ℕ) (s r q : List ℕ) → i ≡ 32 → length r ≡ 32 → HiddenTo i s r q → q ≡ xoredBehind 8 s r
+pub hidden-all : (i : ℕ) (s r q : List ℕ) → i ≡ 32 → length r ≡ 32 → HiddenTo i s r q
+    → q ≡ xoredBehind 8 s r
 unfolding xoredBehind
 hidden-all i s [] q e size h = absurd (omega arith)
 hidden-all i s (z ∷ r) q e size h =

@@ -85,7 +85,8 @@ abbrev lentWith : code.Processor → List ℕ → List ℕ → List ℕ → List
 lentWith p mem macs cache dir = record { processor = p; mem = mem; macs = macs; cache = cache; dir = dir }
 
 module _ {call : Call} {l : Lent} {no : ℕ} (j : Judged call l no) (right : no ≡ 0) where
-  accepted-leaves : (l′ : Lent) {x : Report} {buffer : List ℕ} → Gives (onAccepted call l) x buffer (machineIn l′)
+  accepted-leaves : (l′ : Lent) {x : Report} {buffer : List ℕ} → Gives (onAccepted call l) x buffer
+      (machineIn l′)
       → Leaves call l x buffer l′
   unfolding Leaves resultOf
   accepted-leaves l′ g = rw (accepted-is documentBoard aesCipher call (machineIn l) (j .number) right) g
@@ -116,11 +117,16 @@ module _ {call : Call} {l : Lent} {no : ℕ} (j : Judged call l no) (right : no 
         }
     machine-after mem macs cache dir =
         rw (A .record′)
-        (ap₂ (λ (s : Processor) (drk : List ℕ). record { processor = s; memory = memoryWith drk mem macs cache dir })
+        (ap₂ (λ (s : Processor) (drk : List ℕ). record {
+          processor = s;
+          memory =
+              memoryWith drk mem macs cache dir;
+        })
         (H .record′) (H .key′))
 
     -- where it is one request of the memory
-    pub asked-leaves : (q : Request) (f : Reply → List ℕ) {reply : Reply} {mem′ macs′ cache′ dir′ : List ℕ}
+    pub asked-leaves : (q : Request) (f : Reply → List ℕ) {reply : Reply}
+        {mem′ macs′ cache′ dir′ : List ℕ}
         → onAccepted call l ≡ asked (cachedSetup documentBoard aesCipher) q r f (machineIn l .memory)
         → Handles q (machineIn l .memory) reply k (memoryWith key mem′ macs′ cache′ dir′)
         → Leaves call l (a .report) (f reply) (lentWith (a .processor) mem′ macs′ cache′ dir′)
@@ -154,7 +160,8 @@ module _ {call : Call} {l : Lent} {no : ℕ} (j : Judged call l no) (right : no 
           stepped = x .stepped;
           counted = x .counted ∙ none-counted;
           later = refl;
-          left = machine-after mem′ macs′ cache′ dir′ ∙ ap (λ (s : Cached). record { processor = r; memory = s }) m;
+          left = machine-after mem′ macs′ cache′ dir′
+              ∙ ap (λ (s : Cached). record { processor = r; memory = s }) m;
         }))
 
 -- a line dropped, and everything written back, as requests

@@ -15,7 +15,8 @@ use Rattle.instructions.specs.Rules.{firstOf}
 use Rattle.instructions.specs.Refusals.{bufferFlaws}
 use Rattle.instructions.specs.Depot.{Sealed, depotFlaws, depotSeal, depotOpen}
 
-module _ (c : Cipher) (laws : CipherLaws c) (key line mac : List ℕ) (a : ℕ) (drk : Sized 16 key) (bytes : Sized 64 line)
+module _ (c : Cipher) (laws : CipherLaws c) (key line mac : List ℕ) (a : ℕ) (drk : Sized 16 key)
+    (bytes : Sized 64 line)
   where
     pub open-seal : a % 64 ≡ 0 → length mac ≡ 16
         → depotOpen c key a (depotSeal c key a line mac .line) (depotSeal c key a line mac .mac)

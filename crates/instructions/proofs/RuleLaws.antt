@@ -24,7 +24,8 @@ if-each P true x y p q = p
 if-each P false x y p q = q
 
 -- where the first number is 0, the rule did not apply and the rest has none either
-pub firstOf-none : (b : Bool) (n rest : ℕ) → (n ≡ 0 → ⊥) → if b n rest ≡ 0 → (b ≡ false) × (rest ≡ 0)
+pub firstOf-none : (b : Bool) (n rest : ℕ) → (n ≡ 0 → ⊥) → if b n rest ≡ 0 → (b ≡ false)
+    × (rest ≡ 0)
 firstOf-none true n rest d e = absurd (d e)
 firstOf-none false n rest d e = (refl, e)
 
@@ -91,7 +92,8 @@ apart-before : {A : Type 0} (n : ℕ) (Z : Type 0) (table : List (ℕ × A)) →
 apart-before n Z [] a = a
 apart-before n Z (r ∷ rs) a = apart-before n (Z × (n ≡ r .0 → ⊥)) rs a .0
 
-pub pick-none : {A : Type 0} (n : ℕ) (Z : Type 0) (table : List (ℕ × A)) (d : A) → Apart n Z table → pick n table d ≡ d
+pub pick-none : {A : Type 0} (n : ℕ) (Z : Type 0) (table : List (ℕ × A)) (d : A) → Apart n Z table
+    → pick n table d ≡ d
 pick-none n Z [] d a = refl
 pick-none n Z (r ∷ rs) d a =
     let here = apart-before n (Z × (n ≡ r .0 → ⊥)) rs a in

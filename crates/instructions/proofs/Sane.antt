@@ -30,7 +30,8 @@ pub flaws-sane : (r : Processor) → firstOf (recordFlaws r) ≡ 0 → Sane r
 unfolding recordFlaws
 flaws-sane r z = go (not (eqb (reg r 0) 0)) (ltb 2 (r .cem .mode)) refl refl z
   where
-    go : (a b : Bool) → not (eqb (reg r 0) 0) ≡ a → ltb 2 (r .cem .mode) ≡ b → _≡_ {A = ℕ} (if (a || b) 105 0) 0
+    go : (a b : Bool) → not (eqb (reg r 0) 0) ≡ a → ltb 2 (r .cem .mode) ≡ b
+        → _≡_ {A = ℕ} (if (a || b) 105 0) 0
         → Sane r
     go true b p q e = absurd (omega arith)
     go false true p q e = absurd (omega arith)
@@ -48,7 +49,8 @@ with-zeroth n v regs =
     by-test (eqb n 0) (λ h. rw h) (λ h. rw h (getD-set-other regs n 0 v 0 (λ e. eqb-false n 0 h (sym e))))
 
 -- hiding leaves R0 as it was
-hidden-zeroth : (B : Board) (c : Cipher) (key hash regs : List ℕ) → getD (hidden B c key hash regs) 0 0 ≡ getD regs 0 0
+hidden-zeroth : (B : Board) (c : Cipher) (key hash regs : List ℕ) → getD (hidden B c key hash regs) 0 0 ≡ getD
+    regs 0 0
 unfolding hidden xoredBehind
 hidden-zeroth B c key hash [] = refl
 hidden-zeroth B c key hash (x ∷ l) = refl
@@ -101,7 +103,8 @@ module _ (B : Board) (c : Cipher) (key : List ℕ) (r : Processor) (S : Sane r) 
       let known = knownFault B M r got in
       let fault = if (eqb known 0) (lateFault B c key r w (data′ .failed)) known in
       by-test (eqb fault 0)
-      (λ h. rw h (by-test (eqb (opcode w) 16) (λ k. rw k sane-returned) (λ k. rw k (sane-executed w (data′ .number)))))
+      (λ h. rw h (by-test (eqb (opcode w) 16) (λ k. rw k sane-returned)
+      (λ k. rw k (sane-executed w (data′ .number)))))
       (λ h. rw h (sane-entered fault))
 
 pub sane-reset : (B : Board) (r : Processor) → Sane (reset B r)

@@ -14,11 +14,13 @@ use Rattle.instructions.specs.Board.{Board, modulus}
 use Rattle.instructions.specs.Record.{Processor, withSrh, active, blank, reset}
 use Rattle.instructions.specs.Fields.{opcode}
 use Rattle.instructions.specs.Operations.{nextMode, taken, behind, nextPc, executed}
-use Rattle.instructions.specs.Suspend.{hashOf, hidden, suspended, entered, resumes, restored, hashRight, returned}
+use Rattle.instructions.specs.Suspend.{hashOf, hidden, suspended, entered, resumes, restored, hashRight}
+use Rattle.instructions.specs.Suspend.{returned}
 use Rattle.instructions.specs.Calls.{Machine, Setup, step, runFrom}
 
 -- what was hidden by a key stream comes back by it
-hidden-undo : (B : Board) (c : Cipher) (key hash regs : List ℕ) → hidden B c key hash (hidden B c key hash regs) ≡ regs
+hidden-undo : (B : Board) (c : Cipher) (key hash regs : List ℕ)
+    → hidden B c key hash (hidden B c key hash regs) ≡ regs
 unfolding hidden
 hidden-undo B c key hash regs = xoredBehind-undo (B .wordBytes) (c .stream key hash) regs
 
@@ -55,7 +57,8 @@ module _ (B : Board) (c : Cipher) (key : List ℕ) (n : ℕ) (r : Processor) (on
 
 -- end_cem in active mode at offset 44 goes to the next line
 pub end-at-44 : (B : Board) (c : Cipher) (key : List ℕ) (r : Processor) (w loaded : ℕ) → opcode w ≡ 40
-    → active r ≡ true → r .pc % 64 ≡ 44 → executed B c key r w loaded .pc ≡ (r .pc / 64 * 64 + 64) % modulus B
+    → active r ≡ true → r .pc % 64 ≡ 44 → executed B c key r w loaded .pc ≡ (r .pc / 64 * 64 + 64) % modulus
+    B
 unfolding executed nextPc taken behind active nextMode
 end-at-44 B c key r w loaded e a p =
     let next = (r .pc / 64 * 64 + 64) % modulus B in

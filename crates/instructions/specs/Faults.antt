@@ -18,7 +18,8 @@ fetchFault M r =
 
 -- is sel one that the opcode lists: 0 for drk.set, 0 and 2 for gr.get, 0 to 3 for gr.set? No other opcode has one
 unfoldable pub selListed : ℕ → Bool
-selListed w = pick (opcode w) ((32, eqb (sel w) 0) ∷ (37, oneOf (sel w) (0 ∷ 2 ∷ [])) ∷ (38, leb (sel w) 3) ∷ []) true
+selListed w = pick (opcode w) ((32, eqb (sel w) 0) ∷ (37, oneOf (sel w) (0 ∷ 2 ∷ [])) ∷ (38, leb (sel w) 3)
+    ∷ []) true
 
 -- does the instruction name a data address: load, store, secure_load, secure_store?
 unfoldable pub hasAddress : ℕ → Bool

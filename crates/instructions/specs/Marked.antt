@@ -49,7 +49,8 @@ pub record Marked (c : Cipher) : Type 0 where
   -- clz of 1 is 63
   pub p4 : reg (stepOf c 0 false 1 0 (encoded 7 3 1 0 0) .processor) 3 ≡ 63
   -- word 04611000 hex is add R3,R1,R2
-  pub p5 : (opcode 0x04611000 ≡ 1) × (fieldA 0x04611000 ≡ 3) × (fieldB 0x04611000 ≡ 1) × (fieldC 0x04611000 ≡ 2)
+  pub p5 : (opcode 0x04611000 ≡ 1) × (fieldA 0x04611000 ≡ 3) × (fieldB 0x04611000 ≡ 1)
+      × (fieldC 0x04611000 ≡ 2)
   -- drk.set locked, sel 2: fault 1
   pub p6 : stepOf c 0 true 1 2 (encoded 32 1 2 0 2) .fault ≡ 1
   -- begin_cem.a suspended: 3

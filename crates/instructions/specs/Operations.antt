@@ -92,7 +92,8 @@ taken r w = pick (opcode w) ((8, eqb (Ra r w) (Rb r w)) ∷ (9, true) ∷ []) fa
 unfoldable pub target : Board → Processor → ℕ → ℕ
 target B r w = pick (opcode w) ((8, (r .pc + 4 * imm B w) % modulus B) ∷ (9, Ra r w) ∷ []) 0
 
--- the pc behind the instruction; the start of the next line where the mode is active before or after and pc mod 64 ≥ 44
+-- the pc behind the instruction; the start of the next line where the mode is active before or after and pc mod 64 ≥
+-- 44
 unfoldable pub behind : Board → ℕ → Bool → ℕ
 behind B pc concealed = if (concealed && leb 44 (pc % 64)) ((pc / 64 * 64 + 64) % modulus B) ((pc + 4) % modulus B)
 

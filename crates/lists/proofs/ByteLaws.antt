@@ -78,6 +78,7 @@ same-true [] (y ∷ r) e = absurd (false≢true e)
 same-true (x ∷ l) [] e = absurd (false≢true e)
 same-true (x ∷ l) (y ∷ r) e = go (eqb x y) refl e (same-true l r)
   where
-    go : (b : Bool) → eqb x y ≡ b → (b && same l r) ≡ true → (same l r ≡ true → l ≡ r) → x ∷ l ≡ y ∷ r
+    go : (b : Bool) → eqb x y ≡ b → (b && same l r) ≡ true → (same l r ≡ true → l ≡ r) → x ∷ l ≡ y
+        ∷ r
     go true q h rest = ap₂ _∷_ (eqb-true x y q) (rest h)
     go false q h rest = absurd (false≢true h)

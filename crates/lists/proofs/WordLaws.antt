@@ -17,7 +17,8 @@ length-littleBytes (suc k) n = ap suc (length-littleBytes k (n / 256))
 pub bytes-littleBytes : (k n : ℕ) → Bytes (littleBytes k n)
 unfolding littleBytes
 bytes-littleBytes zero n = bytes-none
-bytes-littleBytes (suc k) n = bytes-cons (n % 256) (littleBytes k (n / 256)) (omega arith) (bytes-littleBytes k (n / 256))
+bytes-littleBytes (suc k) n = bytes-cons (n % 256) (littleBytes k (n / 256)) (omega arith)
+    (bytes-littleBytes k (n / 256))
 
 -- a number that fits k bytes is read back
 pub little-littleBytes : (k n : ℕ) → n < 256 ^ k → little (littleBytes k n) ≡ n
@@ -25,7 +26,8 @@ unfolding little littleBytes
 little-littleBytes zero n h = omega arith
 little-littleBytes (suc k) n h =
     let e : little (littleBytes k (n / 256)) ≡ n / 256 =
-    little-littleBytes k (n / 256) (div-lt-iff-lt-mul (omega arith) .1 (subst (λ (z : ℕ). n < z) (pow-suc 256 k) h)) in
+    little-littleBytes k (n / 256) (div-lt-iff-lt-mul (omega arith) .1 (subst (λ (z : ℕ). n < z) (pow-suc 256 k) h))
+    in
     rw e (omega arith)
 
 -- k bytes are a number below 256 ^ k

@@ -44,9 +44,15 @@ step-small m m′ fault k F h S =
     let C = cached aesCipher direct in
     let A = perform C (grant (fetchWish M (m .processor))) s in
     let D = perform C (grant (dataWish documentBoard aesCipher (s .key) M (m .processor) (A .out))) (A .state) in
-    let p : length (A .state .dir) ≡ length (s .dir) = perform-good aesCipher aesLaws direct direct-laws N (length (s .dir)) (grant (fetchWish M (m .processor))) s (grant-sound N (fetchWish M (m .processor)) (fetch-fair N M (m .processor) (F .mem))) F .places in
-    let W = within-append 1 (length (s .dir) + 1) 1 (length (A .state .dir) + 1) (A .log) (D .log) (any-within aesCipher direct (fetchWish M (m .processor)) s) (any-within aesCipher direct (dataWish documentBoard aesCipher (s .key) M (m .processor) (A .out)) (A .state)) in
-    let e : k ≡ countsOf (A .log ++ D .log) = S .counted ∙ ap (λ (z : Ran Stepped Cached). countsOf (z .log)) (phases C documentBoard aesCipher (s .key) M (m .processor) s) in
+    let p : length (A .state .dir) ≡ length (s .dir) = perform-good aesCipher aesLaws direct direct-laws N
+    (length (s .dir)) (grant (fetchWish M (m .processor))) s
+    (grant-sound N (fetchWish M (m .processor)) (fetch-fair N M (m .processor) (F .mem))) F .places in
+    let W = within-append 1 (length (s .dir) + 1) 1 (length (A .state .dir) + 1) (A .log) (D .log)
+    (any-within aesCipher direct (fetchWish M (m .processor)) s)
+    (any-within aesCipher direct (dataWish documentBoard aesCipher (s .key) M (m .processor) (A .out)) (A .state))
+    in
+    let e : k ≡ countsOf (A .log ++ D .log) = S .counted ∙ ap (λ (z : Ran Stepped Cached). countsOf (z .log))
+    (phases C documentBoard aesCipher (s .key) M (m .processor) s) in
     rw e
     (record {
       filled = omega (arith, W .filled);

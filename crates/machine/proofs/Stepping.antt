@@ -49,11 +49,13 @@ unfolding documentBoard
 eight-words = refl
 
 -- the wish of a fetch is the meaning's
-pub fetch-wish : (M : ℕ) (p : Processor) (f : ℕ) → f ≡ fetchFault M p → fetchOf f (p .cem .mode) (p .pc) ≡ fetchWish M p
+pub fetch-wish : (M : ℕ) (p : Processor) (f : ℕ) → f ≡ fetchFault M p
+    → fetchOf f (p .cem .mode) (p .pc) ≡ fetchWish M p
 unfolding fetchWish
 fetch-wish M p f e = rw e
 
-inside-word : (N M : ℕ) (tag : Tag) (a k : ℕ) (write : Bool) (v : ℕ) → M ≡ N * 64 → FairWish N (word tag a k write v)
+inside-word : (N M : ℕ) (tag : Tag) (a k : ℕ) (write : Bool) (v : ℕ) → M ≡ N * 64
+    → FairWish N (word tag a k write v)
     → Inside a k M
 inside-word N M tag a k write v e (fair-word line place t) = record { line = omega arith; place = place }
 
@@ -162,7 +164,8 @@ module _ (M : ℕ) (key : List ℕ) (p : Processor) (got : Got) (s : Cached) whe
       by-eq (opcode w) 32
       (λ o.
       let x = new-key h o in
-      let z : data′ .failed ≡ false = f ∙ (ap (λ (y : Wish). done y .out .failed) x ∙ new-key-is (keyFrom p w) .1) in
+      let z : data′ .failed ≡ false = f
+      ∙ (ap (λ (y : Wish). done y .out .failed) x ∙ new-key-is (keyFrom p w) .1) in
       let y : n ≡ 0 = rw (eq-eqb (knownFault documentBoard M p got) 0 h, z, o) at e in
       rw (y, o) (sym (ap (λ (y : Wish). done y .state .key) x ∙ new-key-is (keyFrom p w) .0)))
       (λ o. rw (ne-eqb (opcode w) 32 o) (if-same (eqb n 0) key ∙ (sym k ∙ sym (key-old h o .kept s)))))
@@ -178,9 +181,11 @@ module _ (regs : List ℕ) (q : Special) (mem macs cache dir : List ℕ) where
   abbrev s : Cached
   s = lent (q .drkhi) (q .drklo) mem macs cache dir
 
-  pub stepped : (f : ℕ) (failed : Bool) (n : ℕ) (k₁ : Counts) (t : Cached) (x : Wanted) (failed₂ : Bool) (n₂ : ℕ)
+  pub stepped : (f : ℕ) (failed : Bool) (n : ℕ) (k₁ : Counts) (t : Cached) (x : Wanted) (failed₂ : Bool)
+      (n₂ : ℕ)
       (k₂ k : Counts)
-      (mem′ macs′ cache′ dir′ regs′ : List ℕ) (q′ : Special) (fault : ℕ) → f ≡ fetchFault (length mem) p
+      (mem′ macs′ cache′ dir′ regs′ : List ℕ) (q′ : Special) (fault : ℕ)
+      → f ≡ fetchFault (length mem) p
       → t .key ≡ keyOf q
       → Grants (fetchOf f (q .mode) (q .pc)) s failed n k₁ t
       → Decides documentBoard aesCipher (length mem) (keyOf q) p (record { failed = failed; number = n }) x
@@ -216,7 +221,8 @@ module _ (regs : List ℕ) (q : Special) (mem macs cache dir : List ℕ) where
         memory =
             (λ i. record { key = key-is i; mem = mem′; macs = macs′; cache = cache′; dir = dir′ })
             ∙ (H .left ∙ (ap (λ z. z .state) (sym same-data) ∙ ap (λ z. z .state) (sym ph)));
-        counted = c ∙ (counts ∙ (sym (counts-append (A .log) (A-then .log)) ∙ ap (λ z. countsOf (z .log)) (sym ph)));
+        counted = c ∙ (counts ∙ (sym (counts-append (A .log) (A-then .log))
+            ∙ ap (λ z. countsOf (z .log)) (sym ph)));
       }
 
 -- after a step the memory is fit

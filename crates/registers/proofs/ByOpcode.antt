@@ -32,7 +32,8 @@ pub read : {regs : List ℕ} {w op i x j y : ℕ} → op ≡ opcode w → x ≡ 
     → Reads regs w op i x j y
 read o e f = record { op-is = o; x-is = e; y-is = f }
 
-module _ (B : Board) (p : Processor) {w op b c : ℕ} (R : Reads (p .regs) w op (fieldB w) b (fieldC w) c) (loaded : ℕ)
+module _ (B : Board) (p : Processor) {w op b c : ℕ} (R : Reads (p .regs) w op (fieldB w) b (fieldC w) c)
+    (loaded : ℕ)
   where
     pub value-at : (k v : ℕ) → op ≡ k → v ≡ pick k (values B p w loaded b c) 0 → v ≡ value B p w loaded
     unfolding value Rb Rc reg
@@ -40,15 +41,18 @@ module _ (B : Board) (p : Processor) {w op b c : ℕ} (R : Reads (p .regs) w op 
 
     pub value-none : Apart op Unit (values B p w loaded b c) → 0 ≡ value B p w loaded
     unfolding value Rb Rc reg
-    value-none a = rw (← (R .op-is), ← (R .x-is), ← (R .y-is)) (sym (pick-none op Unit (values B p w loaded b c) 0 a))
+    value-none a = rw (← (R .op-is), ← (R .x-is), ← (R .y-is))
+        (sym (pick-none op Unit (values B p w loaded b c) 0 a))
 
 -- the mode
-pub nextMode-at : (p : Processor) (w op k m : ℕ) → op ≡ opcode w → op ≡ k → m ≡ pick k modes (p .cem .mode)
+pub nextMode-at : (p : Processor) (w op k m : ℕ) → op ≡ opcode w → op ≡ k
+    → m ≡ pick k modes (p .cem .mode)
     → m ≡ nextMode p w
 unfolding nextMode
 nextMode-at p w op k m o e h = rw (← o, e) h
 
-pub nextMode-none : (p : Processor) (w op : ℕ) → op ≡ opcode w → Apart op Unit modes → p .cem .mode ≡ nextMode p w
+pub nextMode-none : (p : Processor) (w op : ℕ) → op ≡ opcode w → Apart op Unit modes
+    → p .cem .mode ≡ nextMode p w
 unfolding nextMode
 nextMode-none p w op o a = rw (← o) (sym (pick-none op Unit modes (p .cem .mode) a))
 
@@ -62,30 +66,40 @@ module _ (B : Board) (c : Cipher) (key : List ℕ) (p : Processor) {w op x y : �
 
   pub granted-none : Apart op Unit (wishes B a x y) → Asks 0 idle q → Granted B c key p w q
   unfolding wishFor Ra Rb reg
-  granted-none n h = rw (← (R .op-is), ← (R .x-is), ← (R .y-is), ← a-is, pick-none op Unit (wishes B a x y) idle n) h
+  granted-none n h = rw (
+    ← (R .op-is),
+    ← (R .x-is),
+    ← (R .y-is),
+    ← a-is,
+    pick-none op Unit (wishes B a x y) idle
+        n,
+  ) h
 
 -- the effect on registers other than Ra, pc and the mode
-module _ (c : Cipher) (regs : List ℕ) (q : Special) {w op a b : ℕ} (R : Reads regs w op (fieldA w) a (fieldB w) b) where
-  abbrev p : Processor
-  p = processorOf regs q
+module _ (c : Cipher) (regs : List ℕ) (q : Special) {w op a b : ℕ} (R : Reads regs w op (fieldA w) a (fieldB w) b)
+  where
+    abbrev p : Processor
+    p = processorOf regs q
 
-  abbrev Affected : Special → Type 0
-  Affected x = Holds (effect c (keyOf q) p w) (nextKey (keyOf q) p w) regs x
+    abbrev Affected : Special → Type 0
+    Affected x = Holds (effect c (keyOf q) p w) (nextKey (keyOf q) p w) regs x
 
-  pub effect-at : {f : Processor → Processor} {key : List ℕ} {x : Special} (k : ℕ) → op ≡ k → Changes f key q x
-      → f p ≡ pick k (effects c (keyOf q) p w a b) p → key ≡ if (eqb k 32) (twoWords a b) (keyOf q) → Affected x
-  unfolding effect nextKey Ra Rb reg
-  effect-at k e C r s =
-      record {
-        record′ = rw (← (R .op-is), ← (R .x-is), ← (R .y-is), e) (C .record′ regs ∙ r);
-        key′ = rw (← (R .op-is), ← (R .x-is), ← (R .y-is), e) (C .key′ ∙ s);
-      }
+    pub effect-at : {f : Processor → Processor} {key : List ℕ} {x : Special} (k : ℕ) → op ≡ k
+        → Changes f key q x
+        → f p ≡ pick k (effects c (keyOf q) p w a b) p → key ≡ if (eqb k 32) (twoWords a b) (keyOf q)
+        → Affected x
+    unfolding effect nextKey Ra Rb reg
+    effect-at k e C r s =
+        record {
+          record′ = rw (← (R .op-is), ← (R .x-is), ← (R .y-is), e) (C .record′ regs ∙ r);
+          key′ = rw (← (R .op-is), ← (R .x-is), ← (R .y-is), e) (C .key′ ∙ s);
+        }
 
-  pub effect-none : (op ≡ 32 → ⊥) → Apart op Unit (effects c (keyOf q) p w a b) → Affected q
-  unfolding effect nextKey Ra Rb reg
-  effect-none d n =
-      record {
-        record′ = rw (← (R .op-is), ← (R .x-is), ← (R .y-is))
-            (sym (pick-none op Unit (effects c (keyOf q) p w a b) p n));
-        key′ = rw (← (R .op-is), ne-eqb op 32 d);
-      }
+    pub effect-none : (op ≡ 32 → ⊥) → Apart op Unit (effects c (keyOf q) p w a b) → Affected q
+    unfolding effect nextKey Ra Rb reg
+    effect-none d n =
+        record {
+          record′ = rw (← (R .op-is), ← (R .x-is), ← (R .y-is))
+              (sym (pick-none op Unit (effects c (keyOf q) p w a b) p n));
+          key′ = rw (← (R .op-is), ne-eqb op 32 d);
+        }

@@ -25,7 +25,8 @@ module _ (B : Board) (M : ℕ) (p : Processor) (failed : Bool) (w fault : ℕ) (
   unfolding knownFault
   known-failed h e = rw (← f, eq-eqb fault 0 h, e)
 
-  pub known-decode : (n : ℕ) → fault ≡ 0 → failed ≡ false → n ≡ decodeFault B M p w → n ≡ knownFault B M p got
+  pub known-decode : (n : ℕ) → fault ≡ 0 → failed ≡ false → n ≡ decodeFault B M p w
+      → n ≡ knownFault B M p got
   unfolding knownFault
   known-decode n h e d = rw (← f, eq-eqb fault 0 h, e) d
 

@@ -45,7 +45,8 @@ pub no-thread-fault : (p : Processor) (op w : ℕ) → op ≡ opcode w → op < 
 unfolding threadFaults selListed
 no-thread-fault p op w e l =
     let below : ltb op 32 ≡ true = lt-ltb op 32 l in
-    let not-op : (k : ℕ) → ltb k 32 ≡ false → eqb op k ≡ false = λ k h. eqb-outside (λ j. ltb j 32) op k below h in
+    let not-op : (k : ℕ) → ltb k 32 ≡ false → eqb op k ≡ false = λ k h. eqb-outside (λ j. ltb j 32) op k
+    below h in
     rw (← e, not-op 32 refl, not-op 37 refl, not-op 38 refl, not-op 39 refl, not-op 43 refl)
 
 -- the opcode has a fault, or it has none and the address decides

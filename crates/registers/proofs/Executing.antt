@@ -75,7 +75,8 @@ module _ (B : Board) (c : Cipher) (key : List ℕ) (p : Processor) (w loaded : �
       rw (h, ← b, nextMode-outside isLow low refl, effect-outside isLow low refl)
 
   -- the others
-  pub executed-other : (pc m : ℕ) (q : Processor) → hasValue w ≡ false → pc ≡ nextPc B p w → m ≡ nextMode p w
+  pub executed-other : (pc m : ℕ) (q : Processor) → hasValue w ≡ false → pc ≡ nextPc B p w
+      → m ≡ nextMode p w
       → q ≡ effect c key p w
       → withRegs (p .regs) (withPc pc (withMode m q)) ≡ executed B c key p w loaded
   unfolding executed

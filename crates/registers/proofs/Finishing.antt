@@ -16,7 +16,8 @@ use Rattle.instructions.specs.Step.{knownFault, finished}
 use Rattle.registers.specs.Effects.{Holds, Returns, Finishes, nextKey}
 use Rattle.registers.specs.declared.record.Special.{Special}
 
-module _ (B : Board) (c : Cipher) (M : ℕ) (key : List ℕ) (p : Processor) (fetched failed : Bool) (w loaded known : ℕ)
+module _ (B : Board) (c : Cipher) (M : ℕ) (key : List ℕ) (p : Processor) (fetched failed : Bool)
+    (w loaded known : ℕ)
     (regs : List ℕ) (q : Special)
     (k : known ≡ knownFault B M p (record { failed = fetched; number = w })) where
   abbrev Ends : ℕ → Type 0
@@ -51,7 +52,8 @@ module _ (B : Board) (c : Cipher) (M : ℕ) (key : List ℕ) (p : Processor) (fe
         drk = H .key′;
       }
 
-  pub finishes-rfi : (n : ℕ) → known ≡ 0 → failed ≡ false → opcode w ≡ 16 → Returns B c key p n regs q → Ends n
+  pub finishes-rfi : (n : ℕ) → known ≡ 0 → failed ≡ false → opcode w ≡ 16 → Returns B c key p n regs q
+      → Ends n
   unfolding finished lateFault nextKey
   finishes-rfi n h f o R =
       by-test (tampered B c key p)

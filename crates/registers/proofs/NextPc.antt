@@ -23,7 +23,8 @@ four-times m pc i j e =
     let swap : pc + x % m + x ≡ pc + x + x % m = omega arith in
     let four : pc + x + x ≡ pc + 4 * i = omega arith in
     rw (add-mod-mod pc (j + j) m, e)
-    (ap wrap first ∙ (add-mod-mod (pc + x % m) x m ∙ (ap wrap swap ∙ (add-mod-mod (pc + x) x m ∙ ap wrap four))))
+    (ap wrap first ∙ (add-mod-mod (pc + x % m) x m
+    ∙ (ap wrap swap ∙ (add-mod-mod (pc + x) x m ∙ ap wrap four))))
 
 -- a branch that is not taken
 pub not-taken : (x y : Bool) → (x && y) ≡ false → if x y false ≡ false

@@ -16,7 +16,8 @@ use Rattle.registers.specs.declared.record.Special.{Special}
 
 module _ (B : Board) (c : Cipher) (key : List ℕ) (n : ℕ) (p : Processor) where
   -- a thread that is not active is not suspended
-  pub entered-passive : (p .cem .mode ≡ 1 → ⊥) → withPc 64 (withEpc (p .pc) (withCause n p)) ≡ entered B c key n p
+  pub entered-passive : (p .cem .mode ≡ 1 → ⊥) → withPc 64 (withEpc (p .pc) (withCause n p)) ≡ entered B c key
+      n p
   unfolding entered suspended active
   entered-passive h = rw (ne-eqb (p .cem .mode) 1 h)
 
@@ -44,12 +45,17 @@ module _ (B : Board) (c : Cipher) (key : List ℕ) (p : Processor) (back again :
   unfolding hashRight restored
   is-right = rw (← e, ← a) s
 
-  pub returns-right : (n : ℕ) (regs : List ℕ) (q : Special) → true ≡ resumes p → right ≡ true → n ≡ 0 → regs ≡ back
-      → processorOf regs q ≡ withRegs regs (withPc (p .epc) (withMode 1 p)) → keyOf q ≡ key → Returns B c key p n regs q
+  pub returns-right : (n : ℕ) (regs : List ℕ) (q : Special) → true ≡ resumes p → right ≡ true → n ≡ 0
+      → regs ≡ back
+      → processorOf regs q ≡ withRegs regs (withPc (p .epc) (withMode 1 p)) → keyOf q ≡ key
+      → Returns B c key p n regs q
   unfolding returned restored
   returns-right n regs q h r z g y k =
       let t : hashRight B c key p ≡ true = sym is-right ∙ r in
-      record { number = rw (← h, t) z; holds = rw (← h, t) (record { record′ = rw (← e, ← g) y; key′ = k }) }
+      record {
+        number = rw (← h, t) z;
+        holds = rw (← h, t) (record { record′ = rw (← e, ← g) y; key′ = k });
+      }
 
   pub returns-wrong : (n : ℕ) (regs : List ℕ) (q : Special) → true ≡ resumes p → right ≡ false → n ≡ 6
       → Holds (entered B c key 6 p) key regs q → Returns B c key p n regs q

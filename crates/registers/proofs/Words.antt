@@ -23,7 +23,8 @@ getD-nil (suc i) = refl
 pub getD-no-word : (a b c d i : ℕ) → NoWord i → 0 ≡ getD (a ∷ b ∷ c ∷ d ∷ []) i 0
 getD-no-word a b c d i n = no-word-four i n (λ (j : ℕ). 0 ≡ getD (a ∷ b ∷ c ∷ d ∷ []) j 0) getD-nil
 
-pub set-no-word : (a b c d i x : ℕ) → NoWord i → set (a ∷ b ∷ c ∷ d ∷ []) i x ≡ a ∷ b ∷ c ∷ d ∷ []
+pub set-no-word : (a b c d i x : ℕ) → NoWord i → set (a ∷ b ∷ c ∷ d ∷ []) i x ≡ a ∷ b ∷ c ∷ d
+    ∷ []
 set-no-word a b c d i x n =
     no-word-four i n (λ (j : ℕ). set (a ∷ b ∷ c ∷ d ∷ []) j x ≡ a ∷ b ∷ c ∷ d ∷ []) (λ k. refl)
 

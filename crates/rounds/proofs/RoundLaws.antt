@@ -48,10 +48,12 @@ unfolding addRoundKey
 key-added w r x k h = rw (h .first, h .second, h .third, h .fourth)
 
 -- the bytes of a share
-share-bytes : (m0 m1 m2 m3 y : ℕ) → y < 256 → Bytes (share m0 m1 m2 m3 y) (m2 • y) (m1 • y) (m0 • y) (m3 • y)
+share-bytes : (m0 m1 m2 m3 y : ℕ) → y < 256 → Bytes (share m0 m1 m2 m3 y) (m2 • y) (m1 • y) (m0 • y)
+    (m3 • y)
 unfolding share
 share-bytes m0 m1 m2 m3 y h =
-    word-bytes (m2 • y) (m1 • y) (m0 • y) (m3 • y) (•-lt m2 y h) (•-lt m1 y h) (•-lt m0 y h) (•-lt m3 y h)
+    word-bytes (m2 • y) (m1 • y) (m0 • y) (m3 • y) (•-lt m2 y h) (•-lt m1 y h) (•-lt m0 y h)
+    (•-lt m3 y h)
 
 module _ (y : Way) (t : List ℕ) (shares : Shares y t) where
   -- the bytes of the entry at a byte
@@ -77,7 +79,8 @@ module _ (y : Way) (t : List ℕ) (shares : Shares y t) where
       let q = looked-up (byteOf b 1) (byteOf-lt b 1) in
       let u = looked-up (byteOf c 2) (byteOf-lt c 2) in
       let v = looked-up (byteOf d 3) (byteOf-lt d 3) in
-      let sum = bytes-⊕ (bytes-⊕ (bytes-⊕ (turned-bytes (at t (byteOf a 0)) 2) (turned-bytes (at t (byteOf b 1)) 3)) u)
+      let sum = bytes-⊕ (bytes-⊕
+      (bytes-⊕ (turned-bytes (at t (byteOf a 0)) 2) (turned-bytes (at t (byteOf b 1)) 3)) u)
       (turned-bytes (at t (byteOf d 3)) 1) in
       record {
         byte0 = sum .byte0 ∙ (λ i. p .byte2 i ⊕ q .byte1 i ⊕ y .m2 • f (byteOf c 2) ⊕ v .byte3 i);
@@ -87,7 +90,8 @@ module _ (y : Way) (t : List ℕ) (shares : Shares y t) where
             (y .m3 • f (byteOf a 0)));
         byte2 =
             sum .byte2 ∙ (λ i. p .byte0 i ⊕ q .byte3 i ⊕ y .m0 • f (byteOf c 2) ⊕ v .byte1 i)
-            ∙ ⊕-turn (y .m2 • f (byteOf a 0)) (y .m3 • f (byteOf b 1)) (y .m0 • f (byteOf c 2)) (y .m1 • f (byteOf d 3))
+            ∙ ⊕-turn (y .m2 • f (byteOf a 0)) (y .m3 • f (byteOf b 1)) (y .m0 • f (byteOf c 2))
+            (y .m1 • f (byteOf d 3))
             ∙ ⊕-turn (y .m1 • f (byteOf d 3)) (y .m2 • f (byteOf a 0)) (y .m3 • f (byteOf b 1))
             (y .m0 • f (byteOf c 2));
         byte3 =

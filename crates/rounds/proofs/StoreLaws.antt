@@ -13,14 +13,16 @@ use Rattle.aes_standard.specs.State.{at, state, byteOf}
 use Rattle.aes_standard.proofs.StateLaws.{tabulate, tabulated}
 use Rattle.rounds.specs.Words.{fourWords, fourSet}
 
-tabulate-same : (n : ℕ) (f g : ℕ → ℕ) → ((i : ℕ) → i < n → f i ≡ g i) → tabulate n f ≡ tabulate n g
+tabulate-same : (n : ℕ) (f g : ℕ → ℕ) → ((i : ℕ) → i < n → f i ≡ g i)
+    → tabulate n f ≡ tabulate n g
 tabulate-same zero f g h = refl
 tabulate-same (suc n) f g h =
     ap₂ (λ (x : ℕ) (l : List ℕ). x ∷ l) (h 0 (omega arith))
     (tabulate-same n (λ i. f (suc i)) (λ i. g (suc i)) (λ i lt. h (suc i) (omega arith)))
 
 -- the bytes of a buffer from place k on are a part of it
-pub tabulate-partAt : (n : ℕ) (l : List ℕ) (k : ℕ) → k + n ≤ length l → tabulate n (λ i. at l (k + i)) ≡ partAt k n l
+pub tabulate-partAt : (n : ℕ) (l : List ℕ) (k : ℕ) → k + n ≤ length l
+    → tabulate n (λ i. at l (k + i)) ≡ partAt k n l
 unfolding partAt
 tabulate-partAt n l k h =
     tabulate-same n (λ i. at l (k + i)) (at (partAt k n l))
@@ -32,7 +34,8 @@ pub state-partAt : (l : List ℕ) (k : ℕ) → k + 16 ≤ length l → state (�
 state-partAt = tabulate-partAt 16
 
 -- sixteen stores in a row replace a part
-pub sets-putAt : (l : List ℕ) (k : ℕ) (vs : List ℕ) → k + length vs ≤ length l → sets l k vs ≡ putAt k (length vs) vs l
+pub sets-putAt : (l : List ℕ) (k : ℕ) (vs : List ℕ) → k + length vs ≤ length l
+    → sets l k vs ≡ putAt k (length vs) vs l
 unfolding putAt
 sets-putAt l k vs h =
     sets-eq vs l k h ∙ append-assoc (take k l) vs (drop (k + length vs) l)
@@ -42,7 +45,8 @@ sets-putAt l k vs h =
 four-sets : (l : List ℕ) (k a b c d : ℕ) → fourSet l k a b c d ≡ sets l k (a ∷ b ∷ c ∷ d ∷ [])
 four-sets l k a b c d = rw (add-one, add-two, add-three)
 
-sets-more : (xs l : List ℕ) (k : ℕ) (ys : List ℕ) → sets (sets l k xs) (k + length xs) ys ≡ sets l k (xs ++ ys)
+sets-more : (xs l : List ℕ) (k : ℕ) (ys : List ℕ) → sets (sets l k xs) (k + length xs) ys ≡ sets l k
+    (xs ++ ys)
 sets-more [] l k ys = ap (λ (n : ℕ). sets l n ys) (add-zero k)
 sets-more (x ∷ xs) l k ys = ap (λ (n : ℕ). sets (sets (set l k x) (suc k) xs) n ys)
     (add-suc k (length xs) ∙ sym (suc-add k (length xs))) ∙ sets-more xs (set l k x) (suc k) ys
@@ -62,7 +66,8 @@ word-more xs l r z k x p q =
 -- a list that is replaced whole
 pub putAt-all : (n : ℕ) (x l : List ℕ) → length l ≡ n → putAt 0 n x l ≡ x
 unfolding putAt
-putAt-all n x l e = ap (λ (r : List ℕ). x ++ r) (ap (λ (k : ℕ). drop k l) (sym e) ∙ drop-length l) ∙ append-nil x
+putAt-all n x l e = ap (λ (r : List ℕ). x ++ r) (ap (λ (k : ℕ). drop k l) (sym e) ∙ drop-length l)
+    ∙ append-nil x
 
 -- the code's four words, laid down one after the other, replace a part
 pub fourWords-stored : (l p q r z : List ℕ) (k a b c d : ℕ) → k + 16 ≤ length l

@@ -81,10 +81,12 @@ four-laid l k x i = fourSet l k (byteOf x 0) (byteOf x 1) (byteOf x 2) (byteOf-l
 -- the sixteen bytes of four words, from the bytes of each
 pub four-bytes : {w a b c d w' a' b' c' d' v e f g h v' e' f' g' h' : ℕ}
     → Bytes w a b c d → Bytes w' a' b' c' d' → Bytes v e f g h → Bytes v' e' f' g' h'
-    → fourWords w w' v v' ≡ a ∷ b ∷ c ∷ d ∷ a' ∷ b' ∷ c' ∷ d' ∷ e ∷ f ∷ g ∷ h ∷ e' ∷ f' ∷ g' ∷ h' ∷ []
+    → fourWords w w' v v' ≡ a ∷ b ∷ c ∷ d ∷ a' ∷ b' ∷ c' ∷ d' ∷ e ∷ f ∷ g ∷ h ∷ e' ∷ f'
+    ∷ g' ∷ h' ∷ []
 four-bytes p q r s i =
     p .byte0 i ∷ p .byte1 i ∷ p .byte2 i ∷ p .byte3 i ∷ q .byte0 i ∷ q .byte1 i ∷ q .byte2 i ∷ q .byte3 i
-    ∷ r .byte0 i ∷ r .byte1 i ∷ r .byte2 i ∷ r .byte3 i ∷ s .byte0 i ∷ s .byte1 i ∷ s .byte2 i ∷ s .byte3 i ∷ []
+    ∷ r .byte0 i ∷ r .byte1 i ∷ r .byte2 i ∷ r .byte3 i ∷ s .byte0 i ∷ s .byte1 i ∷ s .byte2 i
+    ∷ s .byte3 i ∷ []
 
 -- the bytes of a word that stands at place k + j, by places counted from k
 wordAt-bytes : (l : List ℕ) (k j w : ℕ) → WordAt l (k + j) w

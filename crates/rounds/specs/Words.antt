@@ -36,7 +36,8 @@ turned w n = word (byteOf w ((4 - n) % 4)) (byteOf w ((5 - n) % 4)) (byteOf w ((
 abbrev pub fourWords : ℕ → ℕ → ℕ → ℕ → List ℕ
 fourWords a b c d =
     byteOf a 0 ∷ byteOf a 1 ∷ byteOf a 2 ∷ byteOf a 3 ∷ byteOf b 0 ∷ byteOf b 1 ∷ byteOf b 2 ∷ byteOf b 3
-    ∷ byteOf c 0 ∷ byteOf c 1 ∷ byteOf c 2 ∷ byteOf c 3 ∷ byteOf d 0 ∷ byteOf d 1 ∷ byteOf d 2 ∷ byteOf d 3 ∷ []
+    ∷ byteOf c 0 ∷ byteOf c 1 ∷ byteOf c 2 ∷ byteOf c 3 ∷ byteOf d 0 ∷ byteOf d 1 ∷ byteOf d 2
+    ∷ byteOf d 3 ∷ []
 
 -- The block that four columns hold.
 abbrev pub blockOf : Columns → List ℕ

@@ -110,7 +110,8 @@ pub fn flip(x: Columns) -> Columns
 // Lays the four bytes of a word down from place k on.
 pub fn put_word(x: u32, b: &mut [u8], k: usize)
     requires { ⌜ k + 4 ≤ length (now b) ⌝ }
-    ensures { λ _. ⌜ now (b .exit) ≡ fourSet (now (b .entry)) k (byteOf x 0) (byteOf x 1) (byteOf x 2) (byteOf x 3) ⌝ }
+    ensures { λ _. ⌜ now (b .exit) ≡ fourSet (now (b .entry)) k (byteOf x 0) (byteOf x 1) (byteOf x 2) (byteOf x 3)
+        ⌝ }
 {
     b[k] = (x / 16777216 % 256) as u8;
     b[k + 1] = (x / 65536 % 256) as u8;

@@ -24,7 +24,8 @@ use Rattle.aes_standard.proofs.WordBytes.{byteOf-lt}
 use Rattle.rounds.proofs.RoundLaws.{shared-bytes, picked-bytes}
 
 -- an entry of the S-box at a byte of k, undone
-invSubByte-entry : (s : List ℕ) → Table 256 subByte s → (k r : ℕ) → invSubByte (at s (byteOf k r)) ≡ byteOf k r
+invSubByte-entry : (s : List ℕ) → Table 256 subByte s → (k r : ℕ) → invSubByte (at s (byteOf k r)) ≡ byteOf
+    k r
 invSubByte-entry s h k r = ap invSubByte (h .entry (byteOf k r) (byteOf-lt k r))
     ∙ sub-undone .undone (byteOf k r) (byteOf-lt k r)
 
@@ -70,8 +71,10 @@ key-kept w r k out h =
     kept e = record { first = λ z. e; inner = λ p q. absurd (out p q); last = λ z. e }
 
 -- and InvMixColumns of it in the others
-pub key-unmixed : (w : List ℕ) (r : ℕ) (k y : Columns) → (r ≡ 0 → ⊥) → (r ≡ 10 → ⊥) → RoundKey w r k
-    → Unmixed (k .a) (y .a) → Unmixed (k .d) (y .b) → Unmixed (k .c) (y .c) → Unmixed (k .b) (y .d) → InverseKey w r y
+pub key-unmixed : (w : List ℕ) (r : ℕ) (k y : Columns) → (r ≡ 0 → ⊥) → (r ≡ 10 → ⊥)
+    → RoundKey w r k
+    → Unmixed (k .a) (y .a) → Unmixed (k .d) (y .b) → Unmixed (k .c) (y .c) → Unmixed (k .b) (y .d)
+    → InverseKey w r y
 key-unmixed w r k y start end h a b c d =
     record {
       first = taken (h .first) a;
@@ -88,7 +91,8 @@ pub keys-none : (w v : List ℕ) → InverseKeys 0 w v
 keys-none w v = record { key = λ r j lt h. absurd (omega arith) }
 
 -- what stands in a list after four words were laid down from place k on
-at-fourSet : (v : List ℕ) (k a b c d : ℕ) → k + 4 ≤ length v → (P : ℕ → ℕ → Type 0) → P 0 a → P 1 b → P 2 c → P 3 d
+at-fourSet : (v : List ℕ) (k a b c d : ℕ) → k + 4 ≤ length v → (P : ℕ → ℕ → Type 0) → P 0 a
+    → P 1 b → P 2 c → P 3 d
     → (j : ℕ) → j < 4 → P j (at (fourSet v k a b c d) (k + j))
 at-fourSet v k a b c d fits P p q r s zero lt =
     rw (
@@ -145,13 +149,17 @@ keys-all w v n e h = rw e at h
 
 -- a column with InvMixColumns, plus InvMixColumns of a word, is the column plus the word, with InvMixColumns
 record Column (p q r s k v : ℕ) : Type 0 where
-  byte0 : row 14 11 13 9 p q r s ⊕ byteOf v 0 ≡ row 14 11 13 9 (p ⊕ byteOf k 0) (q ⊕ byteOf k 1) (r ⊕ byteOf k 2)
+  byte0 : row 14 11 13 9 p q r s ⊕ byteOf v 0 ≡ row 14 11 13 9 (p ⊕ byteOf k 0) (q ⊕ byteOf k 1)
+      (r ⊕ byteOf k 2)
       (s ⊕ byteOf k 3)
-  byte1 : row 14 11 13 9 q r s p ⊕ byteOf v 1 ≡ row 14 11 13 9 (q ⊕ byteOf k 1) (r ⊕ byteOf k 2) (s ⊕ byteOf k 3)
+  byte1 : row 14 11 13 9 q r s p ⊕ byteOf v 1 ≡ row 14 11 13 9 (q ⊕ byteOf k 1) (r ⊕ byteOf k 2)
+      (s ⊕ byteOf k 3)
       (p ⊕ byteOf k 0)
-  byte2 : row 14 11 13 9 r s p q ⊕ byteOf v 2 ≡ row 14 11 13 9 (r ⊕ byteOf k 2) (s ⊕ byteOf k 3) (p ⊕ byteOf k 0)
+  byte2 : row 14 11 13 9 r s p q ⊕ byteOf v 2 ≡ row 14 11 13 9 (r ⊕ byteOf k 2) (s ⊕ byteOf k 3)
+      (p ⊕ byteOf k 0)
       (q ⊕ byteOf k 1)
-  byte3 : row 14 11 13 9 s p q r ⊕ byteOf v 3 ≡ row 14 11 13 9 (s ⊕ byteOf k 3) (p ⊕ byteOf k 0) (q ⊕ byteOf k 1)
+  byte3 : row 14 11 13 9 s p q r ⊕ byteOf v 3 ≡ row 14 11 13 9 (s ⊕ byteOf k 3) (p ⊕ byteOf k 0)
+      (q ⊕ byteOf k 1)
       (r ⊕ byteOf k 2)
 
 unmixed-column : (p q r s k v : ℕ) → Unmixed k v → Column p q r s k v
@@ -162,10 +170,14 @@ unmixed-column p q r s k v u =
     let k2 = byteOf k 2 in
     let k3 = byteOf k 3 in
     record {
-      byte0 = ap (λ (z : ℕ). row 14 11 13 9 p q r s ⊕ z) (u .byte0) ∙ sym (row-⊕ 14 11 13 9 p q r s k0 k1 k2 k3);
-      byte1 = ap (λ (z : ℕ). row 14 11 13 9 q r s p ⊕ z) (u .byte1) ∙ sym (row-⊕ 14 11 13 9 q r s p k1 k2 k3 k0);
-      byte2 = ap (λ (z : ℕ). row 14 11 13 9 r s p q ⊕ z) (u .byte2) ∙ sym (row-⊕ 14 11 13 9 r s p q k2 k3 k0 k1);
-      byte3 = ap (λ (z : ℕ). row 14 11 13 9 s p q r ⊕ z) (u .byte3) ∙ sym (row-⊕ 14 11 13 9 s p q r k3 k0 k1 k2);
+      byte0 = ap (λ (z : ℕ). row 14 11 13 9 p q r s ⊕ z) (u .byte0)
+          ∙ sym (row-⊕ 14 11 13 9 p q r s k0 k1 k2 k3);
+      byte1 = ap (λ (z : ℕ). row 14 11 13 9 q r s p ⊕ z) (u .byte1)
+          ∙ sym (row-⊕ 14 11 13 9 q r s p k1 k2 k3 k0);
+      byte2 = ap (λ (z : ℕ). row 14 11 13 9 r s p q ⊕ z) (u .byte2)
+          ∙ sym (row-⊕ 14 11 13 9 r s p q k2 k3 k0 k1);
+      byte3 = ap (λ (z : ℕ). row 14 11 13 9 s p q r ⊕ z) (u .byte3)
+          ∙ sym (row-⊕ 14 11 13 9 s p q r k3 k0 k1 k2);
     }
 
 -- the same of a whole round key, on changed columns
@@ -182,8 +194,10 @@ addRoundKey-unmixed w v r q s h =
     (h 2 (omega arith)) in
     let d = unmixed-column (at s 4) (at s 5) (at s 6) (at s 7) (at w (q * 4 + 1)) (at v (r * 4 + 3))
     (h 3 (omega arith)) in
-    λ i. a .byte0 i ∷ a .byte1 i ∷ a .byte2 i ∷ a .byte3 i ∷ b .byte0 i ∷ b .byte1 i ∷ b .byte2 i ∷ b .byte3 i
-    ∷ c .byte0 i ∷ c .byte1 i ∷ c .byte2 i ∷ c .byte3 i ∷ d .byte0 i ∷ d .byte1 i ∷ d .byte2 i ∷ d .byte3 i ∷ []
+    λ i. a .byte0 i ∷ a .byte1 i ∷ a .byte2 i ∷ a .byte3 i ∷ b .byte0 i ∷ b .byte1 i ∷ b .byte2 i
+    ∷ b .byte3 i
+    ∷ c .byte0 i ∷ c .byte1 i ∷ c .byte2 i ∷ c .byte3 i ∷ d .byte0 i ∷ d .byte1 i ∷ d .byte2 i
+    ∷ d .byte3 i ∷ []
 
 -- a round key whose words are the schedule's own, on changed columns
 addRoundKey-flipped : (w v : List ℕ) (r q : ℕ) (s : List ℕ)
@@ -201,12 +215,14 @@ mixWith-back : (s : List ℕ) → mixWith 14 11 13 9 (flipped s) ≡ flipped (in
 unfolding mixWith flipped invMixColumns
 mixWith-back s = refl
 
-flipped-flipped : (w : List ℕ) (r : ℕ) (s : List ℕ) → flipped (flipped (addRoundKey w r s)) ≡ addRoundKey w r s
+flipped-flipped : (w : List ℕ) (r : ℕ) (s : List ℕ) → flipped (flipped (addRoundKey w r s)) ≡ addRoundKey w r
+    s
 unfolding flipped addRoundKey
 flipped-flipped w r s = refl
 
 module _ (w v : List ℕ) (keys : InverseKeys 11 w v) where
-  round-back : (n : ℕ) (s : List ℕ) → n < 9 → roundBy back v (suc n) (flipped s) ≡ flipped (invRound w (9 - n) s)
+  round-back : (n : ℕ) (s : List ℕ) → n < 9 → roundBy back v (suc n) (flipped s) ≡ flipped
+      (invRound w (9 - n) s)
   unfolding roundBy invRound
   round-back n s h =
       ap (λ (z : List ℕ). addRoundKey v (suc n) (mixWith 14 11 13 9 z)) (movedBy-back s)

@@ -29,7 +29,8 @@ unfolding turned rotWord
 turned-rot w = refl
 
 -- what the code adds to a fourth word
-pub fourth-part : (t : List ℕ) (d v k s : ℕ) → Table 256 subByte t → v ≡ turned d 3 → s ≡ substitutedWord t v v v v ⊕ k
+pub fourth-part : (t : List ℕ) (d v k s : ℕ) → Table 256 subByte t → v ≡ turned d 3
+    → s ≡ substitutedWord t v v v v ⊕ k
     → s ≡ subWord (rotWord d) ⊕ k
 fourth-part t d v k s h e p = p ∙ ap (λ (x : ℕ). x ⊕ k) (sub-word t v h ∙ ap subWord (e ∙ turned-rot d))
 
@@ -87,7 +88,8 @@ laid-first key w x len h =
     }
 
 -- a round key more
-pub laid-next : (key w : List ℕ) (r : ℕ) (x y : Columns) → r < 10 → NextKey x (rcon (r + 1)) y → LaidTo key r w x
+pub laid-next : (key w : List ℕ) (r : ℕ) (x y : Columns) → r < 10 → NextKey x (rcon (r + 1)) y
+    → LaidTo key r w x
     → LaidTo key (r + 1) (fourSet w ((r + 1) * 4) (y .a) (y .b) (y .c) (y .d)) y
 laid-next key w r x y lt h before =
     let left : 40 - (r + 1) * 4 ≡ 36 - r * 4 = omega arith in
@@ -114,9 +116,11 @@ unfolding wordsFrom
 laid-all key w r x ten h = all (rw ten at h)
   where
     all : LaidTo key 10 w x → w ≡ keyExpansion key
-    all h = sym (append-nil w) ∙ ap (λ (l : List ℕ). l ++ []) (sym (take-all 44 w (omega (arith, h .size)))) ∙ h .rest
+    all h = sym (append-nil w) ∙ ap (λ (l : List ℕ). l ++ []) (sym (take-all 44 w (omega (arith, h .size))))
+        ∙ h .rest
 
 -- the code's table of round constants holds Rcon[1], Rcon[2], ..
-pub with-constant : (constants : List ℕ) (r : ℕ) (x y : Columns) → Table 10 (λ k. rcon (k + 1)) constants → r < 10
+pub with-constant : (constants : List ℕ) (r : ℕ) (x y : Columns) → Table 10 (λ k. rcon (k + 1)) constants
+    → r < 10
     → NextKey x (at constants r) y → NextKey x (rcon (r + 1)) y
 with-constant constants r x y t lt h = rw (t .entry r lt) at h

@@ -46,5 +46,6 @@ adds (Note.evicted t n d ∷ log) =
     }
 
 -- no more MACs are checked than lines filled, no more made than lines written
-pub within : (log : List Note) {k : Counts} → k ≡ countsOf log → (k .checked ≤ k .filled) × (k .made ≤ k .written)
+pub within : (log : List Note) {k : Counts} → k ≡ countsOf log → (k .checked ≤ k .filled)
+    × (k .made ≤ k .written)
 within log e = let r = adds log in rw e (omega (arith, r .filled, r .checked), omega (arith, r .written, r .made))

@@ -84,7 +84,8 @@ unfolding fetchWish fetchOf takesKey
 fetch-no-key M r = by-test (eqb (fetchFault M r) 0) (λ h. rw h) (λ h. rw h)
 
 -- the data access takes no key unless the opcode is drk.set's
-data-no-key : (B : Board) (c : Cipher) (key : List ℕ) (M : ℕ) (r : Processor) (got : Got) → opcode (got .number) ≢ 32
+data-no-key : (B : Board) (c : Cipher) (key : List ℕ) (M : ℕ) (r : Processor) (got : Got)
+    → opcode (got .number) ≢ 32
     → takesKey (dataWish B c key M r got) ≡ false
 unfolding dataWish wishFor takesKey
 data-no-key B c key M r got d =
@@ -110,43 +111,45 @@ two-lines B c m d =
     (wish-within c P (dataWish B c (m .memory .key) M r (a .out)) (a .state)
     (data-no-key B c (m .memory .key) M r (a .out) d)))
 
-module _ (B : Board) (BL : BoardLaws B) (c : Cipher) (CL : CipherLaws c) (N C : ℕ) (slots : B .slotsFine C ≡ true) where
-  -- any step
-  step-within : (m : Machine Cached) → Kept B BL c CL N C slots m → Within 2 (C + 2) (step B c (cachedSetup B c) m .log)
-  unfolding step cachedSetup cached fetchPhase dataPhase
-  step-within m K =
-      let P = B .placement in
-      let M = length (m .memory .mem) in
-      let r = m .processor in
-      let a = fetchPhase (cached c P) B c (m .memory .key) M r (m .memory) in
-      let b = dataPhase (cached c P) B c (m .memory .key) M r (m .memory) in
-      let G : Good P (BL .placement) N C (a .state) = perform-good c CL P (BL .placement) N C (grant (fetchWish M r))
-      (m .memory) (grant-sound N (fetchWish M r) (fetch-fair N M r (K .good .mem))) (K .good) in
-      let W : Within 1 (C + 1) (b .log) =
-      rw (G .places) at (any-within c P (dataWish B c (m .memory .key) M r (a .out)) (a .state)) in
-      rw (phases (cached c P) B c (m .memory .key) M r (m .memory))
-      (within-more (1 + 1) (1 + (C + 1)) 2 (C + 2) (a .log ++ b .log) (omega arith) (omega arith)
-      (within-append 1 1 1 (C + 1) (a .log) (b .log) (wish-within c P (fetchWish M r) (m .memory) (fetch-no-key M r))
-      W))
+module _ (B : Board) (BL : BoardLaws B) (c : Cipher) (CL : CipherLaws c) (N C : ℕ) (slots : B .slotsFine C ≡ true)
+  where
+    -- any step
+    step-within : (m : Machine Cached) → Kept B BL c CL N C slots m
+        → Within 2 (C + 2) (step B c (cachedSetup B c) m .log)
+    unfolding step cachedSetup cached fetchPhase dataPhase
+    step-within m K =
+        let P = B .placement in
+        let M = length (m .memory .mem) in
+        let r = m .processor in
+        let a = fetchPhase (cached c P) B c (m .memory .key) M r (m .memory) in
+        let b = dataPhase (cached c P) B c (m .memory .key) M r (m .memory) in
+        let G : Good P (BL .placement) N C (a .state) = perform-good c CL P (BL .placement) N C (grant (fetchWish M r))
+        (m .memory) (grant-sound N (fetchWish M r) (fetch-fair N M r (K .good .mem))) (K .good) in
+        let W : Within 1 (C + 1) (b .log) =
+        rw (G .places) at (any-within c P (dataWish B c (m .memory .key) M r (a .out)) (a .state)) in
+        rw (phases (cached c P) B c (m .memory .key) M r (m .memory))
+        (within-more (1 + 1) (1 + (C + 1)) 2 (C + 2) (a .log ++ b .log) (omega arith) (omega arith)
+        (within-append 1 1 1 (C + 1) (a .log) (b .log) (wish-within c P (fetchWish M r) (m .memory) (fetch-no-key M r))
+        W))
 
-  -- what is added where a run goes on
-  rest-within : (f w : ℕ) (t : Bool) (log : List Note) → Within f w log → Within f w (if t log [])
-  rest-within f w true log W = W
-  rest-within f w false log W = within-more 0 0 f w [] (omega arith) (omega arith) within-none
+    -- what is added where a run goes on
+    rest-within : (f w : ℕ) (t : Bool) (log : List Note) → Within f w log → Within f w (if t log [])
+    rest-within f w true log W = W
+    rest-within f w false log W = within-more 0 0 f w [] (omega arith) (omega arith) within-none
 
-  run-within : (k i : ℕ) (m : Machine Cached) → Kept B BL c CL N C slots m
-      → Within (k * 2) (k * (C + 2)) (runFrom B c (cachedSetup B c) k i m .log)
-  unfolding runFrom
-  run-within zero i m K = within-more 0 0 (0 * 2) (0 * (C + 2)) [] (omega arith) (omega arith) within-none
-  run-within (suc k) i m K =
-      let s = step B c (cachedSetup B c) m in
-      let next : Machine Cached = record { processor = s .out .processor; memory = s .state } in
-      let rest = runFrom B c (cachedSetup B c) k (i + 1) next .log in
-      let going = eqb (s .out .fault) 0 in
-      within-more (2 + k * 2) (C + 2 + k * (C + 2)) (suc k * 2) (suc k * (C + 2)) (s .log ++ (if going rest []))
-      (omega arith) (omega (arith, suc-mul k (C + 2)))
-      (within-append 2 (C + 2) (k * 2) (k * (C + 2)) (s .log) (if going rest []) (step-within m K)
-      (rest-within (k * 2) (k * (C + 2)) going rest (run-within k (i + 1) next (step-kept B BL c CL N C slots m K))))
+    run-within : (k i : ℕ) (m : Machine Cached) → Kept B BL c CL N C slots m
+        → Within (k * 2) (k * (C + 2)) (runFrom B c (cachedSetup B c) k i m .log)
+    unfolding runFrom
+    run-within zero i m K = within-more 0 0 (0 * 2) (0 * (C + 2)) [] (omega arith) (omega arith) within-none
+    run-within (suc k) i m K =
+        let s = step B c (cachedSetup B c) m in
+        let next : Machine Cached = record { processor = s .out .processor; memory = s .state } in
+        let rest = runFrom B c (cachedSetup B c) k (i + 1) next .log in
+        let going = eqb (s .out .fault) 0 in
+        within-more (2 + k * 2) (C + 2 + k * (C + 2)) (suc k * 2) (suc k * (C + 2)) (s .log ++ (if going rest []))
+        (omega arith) (omega (arith, suc-mul k (C + 2)))
+        (within-append 2 (C + 2) (k * 2) (k * (C + 2)) (s .log) (if going rest []) (step-within m K)
+        (rest-within (k * 2) (k * (C + 2)) going rest (run-within k (i + 1) next (step-kept B BL c CL N C slots m K))))
 
 -- an acceptable machine is kept in order
 in-order : (B : Board) (BL : BoardLaws B) (c : Cipher) (CL : CipherLaws c) (m : Machine Cached) (A : Acceptable B m)
@@ -155,7 +158,8 @@ in-order : (B : Board) (BL : BoardLaws B) (c : Cipher) (CL : CipherLaws c) (m : 
 in-order B BL c CL m A =
     record { good = lent-good B BL (m .memory) (A .memory) .good; sane = flaws-sane (m .processor) (A .processor) }
 
-pub step-bound : (B : Board) → BoardLaws B → (c : Cipher) → CipherLaws c → (m : Machine Cached) → Acceptable B m
+pub step-bound : (B : Board) → BoardLaws B → (c : Cipher) → CipherLaws c → (m : Machine Cached)
+    → Acceptable B m
     → Within 2 (length (m .memory .dir) + 2) (step B c (cachedSetup B c) m .log)
 step-bound B BL c CL m A =
     step-within B BL c CL (length (m .memory .mem) / 64) (length (m .memory .dir))

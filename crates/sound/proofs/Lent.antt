@@ -32,7 +32,8 @@ module _ (B : Board) (BL : BoardLaws B) where
       let g = eqb (length (s .cache)) (length (s .dir) * 64) in
       let d = B .directoryFine N (s .dir) in
       let m = eqb (length (s .macs)) (M / 4) in
-      let z1 = firstOf-none (not (sizeFine M)) 101 (firstOf ((not m, 102) ∷ (not (f && g), 103) ∷ (not d, 104) ∷ []))
+      let z1 = firstOf-none (not (sizeFine M)) 101
+      (firstOf ((not m, 102) ∷ (not (f && g), 103) ∷ (not d, 104) ∷ []))
       (λ q. omega arith) z in
       let z2 = firstOf-none (not m) 102 (firstOf ((not (f && g), 103) ∷ (not d, 104) ∷ [])) (λ q. omega arith)
       (z1 .1) in

@@ -99,89 +99,95 @@ unfolding isData isChecked
 not-code t e q = false≢true (subst (λ (x : Tag). isData x ≡ isChecked x) q e)
 
 -- the data access is fair
-module _ (B : Board) (words : ℕ) (whole : words * B .wordBytes ≡ 64) (N M : ℕ) (e : M ≡ N * 64) (r : Processor) where
-  -- an address without fault lies in memory, and its word in one line
-  word-fair : (w : ℕ) → decodeFault B M r w ≡ 0 → hasAddress w ≡ true → (tag : Tag) (write : Bool) (v : ℕ)
-      → (write ≡ true → tag ≡ secureInstruction → ⊥) → FairWish N (word tag (address B r w) (B .wordBytes) write v)
-  unfolding decodeFault opcodeFaults threadFaults addressFaults
-  word-fair w z h tag write v t =
-      let a = address B r w in
-      let k = B .wordBytes in
-      let ten = hasAddress w && ltb M (a + k) in
-      let nine = hasAddress w && not (eqb (a % k) 0) in
-      let rules = firstOf-neither (opcodeFaults B r w) (addressFaults B M r w) refl z in
-      let n9 : (nine ≡ false) × (firstOf ((ten, 10) ∷ []) ≡ 0) =
-      firstOf-none nine 9 (firstOf ((ten, 10) ∷ [])) (λ q. omega arith) (rules .1) in
-      let n10 : ten ≡ false = firstOf-none ten 10 0 (λ q. omega arith) (n9 .1) .0 in
-      let aligned : a % k ≡ 0 = eqb-true (a % k) 0 (not-false (eqb (a % k) 0) (rw h at (n9 .0))) in
-      let inside : a + k ≤ M = ltb-false M (a + k) (rw h at n10) in
-      let fits : a % 64 + k ≤ 64 = in-line a k words whole aligned in
-      let some : 0 < k = pos k whole in
-      let line : a / 64 < N = omega arith in
-      fair-word line fits t
-    where
-      pos : (k : ℕ) → words * k ≡ 64 → 0 < k
-      pos zero q = absurd (omega (arith, mul-zero words))
-      pos (suc k) q = omega arith
+module _ (B : Board) (words : ℕ) (whole : words * B .wordBytes ≡ 64) (N M : ℕ) (e : M ≡ N * 64) (r : Processor)
+  where
+    -- an address without fault lies in memory, and its word in one line
+    word-fair : (w : ℕ) → decodeFault B M r w ≡ 0 → hasAddress w ≡ true
+        → (tag : Tag) (write : Bool) (v : ℕ)
+        → (write ≡ true → tag ≡ secureInstruction → ⊥)
+        → FairWish N (word tag (address B r w) (B .wordBytes) write v)
+    unfolding decodeFault opcodeFaults threadFaults addressFaults
+    word-fair w z h tag write v t =
+        let a = address B r w in
+        let k = B .wordBytes in
+        let ten = hasAddress w && ltb M (a + k) in
+        let nine = hasAddress w && not (eqb (a % k) 0) in
+        let rules = firstOf-neither (opcodeFaults B r w) (addressFaults B M r w) refl z in
+        let n9 : (nine ≡ false) × (firstOf ((ten, 10) ∷ []) ≡ 0) =
+        firstOf-none nine 9 (firstOf ((ten, 10) ∷ [])) (λ q. omega arith) (rules .1) in
+        let n10 : ten ≡ false = firstOf-none ten 10 0 (λ q. omega arith) (n9 .1) .0 in
+        let aligned : a % k ≡ 0 = eqb-true (a % k) 0 (not-false (eqb (a % k) 0) (rw h at (n9 .0))) in
+        let inside : a + k ≤ M = ltb-false M (a + k) (rw h at n10) in
+        let fits : a % 64 + k ≤ 64 = in-line a k words whole aligned in
+        let some : 0 < k = pos k whole in
+        let line : a / 64 < N = omega arith in
+        fair-word line fits t
+      where
+        pos : (k : ℕ) → words * k ≡ 64 → 0 < k
+        pos zero q = absurd (omega (arith, mul-zero words))
+        pos (suc k) q = omega arith
 
-  key-fair : (w : ℕ) → Sized 16 (keyFrom r w)
-  key-fair w =
-      record {
-        size = length-append (bigBytes 8 (Ra r w)) (bigBytes 8 (Rb r w)) ∙ rw
-            (length-bigBytes 8 (Ra r w), length-bigBytes 8 (Rb r w));
-        bytes = bytes-append (bigBytes 8 (Ra r w)) (bigBytes 8 (Rb r w)) (bytes-bigBytes 8 (Ra r w))
-            (bytes-bigBytes 8 (Rb r w));
-      }
+    key-fair : (w : ℕ) → Sized 16 (keyFrom r w)
+    key-fair w =
+        record {
+          size = length-append (bigBytes 8 (Ra r w)) (bigBytes 8 (Rb r w)) ∙ rw
+              (length-bigBytes 8 (Ra r w), length-bigBytes 8 (Rb r w));
+          bytes = bytes-append (bigBytes 8 (Ra r w)) (bigBytes 8 (Rb r w)) (bytes-bigBytes 8 (Ra r w))
+              (bytes-bigBytes 8 (Rb r w));
+        }
 
-  -- without a known fault, nothing was found in decoding
-  decoded : (got : Got) → knownFault B M r got ≡ 0 → decodeFault B M r (got .number) ≡ 0
-  unfolding knownFault
-  decoded got z =
-      by-test (eqb (fetchFault M r) 0)
-      (λ h.
-      by-test (got .failed)
-      (λ f. absurd (omega (arith, rw (h, f) at z)))
-      (λ f. rw (h, f) at z))
-      (λ h. absurd (eqb-false (fetchFault M r) 0 h (rw h at z)))
+    -- without a known fault, nothing was found in decoding
+    decoded : (got : Got) → knownFault B M r got ≡ 0 → decodeFault B M r (got .number) ≡ 0
+    unfolding knownFault
+    decoded got z =
+        by-test (eqb (fetchFault M r) 0)
+        (λ h.
+        by-test (got .failed)
+        (λ f. absurd (omega (arith, rw (h, f) at z)))
+        (λ f. rw (h, f) at z))
+        (λ h. absurd (eqb-false (fetchFault M r) 0 h (rw h at z)))
 
-  has-address : (w k : ℕ) → opcode w ≡ k → oneOf k (10 ∷ 11 ∷ 41 ∷ 42 ∷ []) ≡ true → hasAddress w ≡ true
-  unfolding hasAddress
-  has-address w k e h = rw e h
+    has-address : (w k : ℕ) → opcode w ≡ k → oneOf k (10 ∷ 11 ∷ 41 ∷ 42 ∷ []) ≡ true
+        → hasAddress w ≡ true
+    unfolding hasAddress
+    has-address w k e h = rw e h
 
-  wish-fair : (c : Cipher) (key : List ℕ) (w : ℕ) → decodeFault B M r w ≡ 0 → FairWish N (wishFor B c key r w)
-  unfolding wishFor isData isChecked
-  wish-fair c key w z =
-      pick-each (FairWish N) (opcode w) (wishes B (address B r w) (Ra r w) (Rb r w)) idle (
-        λ e. word-fair w z (has-address w 10 e refl) noTag false 0 (λ p. absurd (false≢true p)),
-        (
-          λ e. word-fair w z (has-address w 11 e refl) noTag true (Ra r w) (λ p. not-code noTag refl),
+    wish-fair : (c : Cipher) (key : List ℕ) (w : ℕ) → decodeFault B M r w ≡ 0
+        → FairWish N (wishFor B c key r w)
+    unfolding wishFor isData isChecked
+    wish-fair c key w z =
+        pick-each (FairWish N) (opcode w) (wishes B (address B r w) (Ra r w) (Rb r w)) idle (
+          λ e. word-fair w z (has-address w 10 e refl) noTag false 0 (λ p. absurd (false≢true p)),
           (
-            λ e. fair-newKey (key-fair w),
+            λ e. word-fair w z (has-address w 11 e refl) noTag true (Ra r w) (λ p. not-code noTag refl),
             (
-              λ e. word-fair w z (has-address w 41 e refl) secureData false 0 (λ p. absurd (false≢true p)),
+              λ e. fair-newKey (key-fair w),
               (
-                λ e. word-fair w z (has-address w 42 e refl) secureData true (Ra r w) (λ p. not-code secureData refl),
-                tt {0},
+                λ e. word-fair w z (has-address w 41 e refl) secureData false 0 (λ p. absurd (false≢true p)),
+                (
+                  λ e. word-fair w z (has-address w 42 e refl) secureData true (Ra r w)
+                      (λ p. not-code secureData refl),
+                  tt {0},
+                ),
               ),
             ),
           ),
-        ),
-      )
-      fair-idle
+        )
+        fair-idle
 
-  module _ (c : Cipher) (key : List ℕ) where
-    pub data-fair : (got : Got) → FairWish N (dataWish B c key M r got)
-    unfolding dataWish
-    data-fair got =
-        by-test (eqb (knownFault B M r got) 0)
-        (λ h. rw h (wish-fair c key (got .number) (decoded got (eqb-true (knownFault B M r got) 0 h))))
-        (λ h. rw h fair-idle)
+    module _ (c : Cipher) (key : List ℕ) where
+      pub data-fair : (got : Got) → FairWish N (dataWish B c key M r got)
+      unfolding dataWish
+      data-fair got =
+          by-test (eqb (knownFault B M r got) 0)
+          (λ h. rw h (wish-fair c key (got .number) (decoded got (eqb-true (knownFault B M r got) 0 h))))
+          (λ h. rw h fair-idle)
 
-    pub instruction-sound : Sound N (instruction B c key M r)
-    unfolding instruction
-    instruction-sound =
-        let end : Got → Got → Prog Stepped = λ got data′. ret (finished B c key M r got data′) in
-        sound-then N (grant (fetchWish M r)) (λ got. andThen (grant (dataWish B c key M r got)) (end got))
-        (grant-sound N (fetchWish M r) (fetch-fair N M r e))
-        (λ got. sound-then N (grant (dataWish B c key M r got)) (end got)
-        (grant-sound N (dataWish B c key M r got) (data-fair got)) (λ data′. sound-ret))
+      pub instruction-sound : Sound N (instruction B c key M r)
+      unfolding instruction
+      instruction-sound =
+          let end : Got → Got → Prog Stepped = λ got data′. ret (finished B c key M r got data′) in
+          sound-then N (grant (fetchWish M r)) (λ got. andThen (grant (dataWish B c key M r got)) (end got))
+          (grant-sound N (fetchWish M r) (fetch-fair N M r e))
+          (λ got. sound-then N (grant (dataWish B c key M r got)) (end got)
+          (grant-sound N (dataWish B c key M r got) (data-fair got)) (λ data′. sound-ret))

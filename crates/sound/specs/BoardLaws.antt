@@ -12,7 +12,8 @@ use Rattle.instructions.specs.Board.{Board}
 pub record BoardLaws (B : Board) : Type 1 where
   pub placement : PlacementLaws (B .placement)
   -- what refusals 103 and 104 let pass is orderly, and an orderly directory is let pass
-  pub passed : (N : ℕ) (dir : List ℕ) → B .slotsFine (length dir) ≡ true → N ≤ 1024 → B .directoryFine N dir ≡ true
+  pub passed : (N : ℕ) (dir : List ℕ) → B .slotsFine (length dir) ≡ true → N ≤ 1024
+      → B .directoryFine N dir ≡ true
       → placement .Orderly N dir
   pub passes : (N : ℕ) (dir : List ℕ) → placement .Orderly N dir → B .directoryFine N dir ≡ true
   -- a line is a whole number of words

@@ -44,8 +44,10 @@ high-byte : (x n : ℕ) → x / 4294967296 / n % 256 ≡ x / (4294967296 * n) % 
 high-byte x n = ap (λ (y : ℕ). y % 256) (div-div-eq-div-mul x 4294967296 n)
 
 bigBytes-halves : (x : ℕ)
-    → byteOf (x / 4294967296) 0 ∷ byteOf (x / 4294967296) 1 ∷ byteOf (x / 4294967296) 2 ∷ byteOf (x / 4294967296) 3
-    ∷ byteOf (x % 4294967296) 0 ∷ byteOf (x % 4294967296) 1 ∷ byteOf (x % 4294967296) 2 ∷ byteOf (x % 4294967296) 3 ∷ []
+    → byteOf (x / 4294967296) 0 ∷ byteOf (x / 4294967296) 1 ∷ byteOf (x / 4294967296) 2
+    ∷ byteOf (x / 4294967296) 3
+    ∷ byteOf (x % 4294967296) 0 ∷ byteOf (x % 4294967296) 1 ∷ byteOf (x % 4294967296) 2
+    ∷ byteOf (x % 4294967296) 3 ∷ []
     ≡ bigBytes 8 x
 unfolding byteOf
 bigBytes-halves x =
@@ -78,13 +80,15 @@ text-laid prefix address bytes (x ∷ out) h =
     ∙ ap (λ (r : List ℕ). prefix ∷ (a ++ r)) (append-nil bytes)
 
 -- the code's way to the text that is signed
-pub text-is : (prefix address : ℕ) (bytes out a l l' : List ℕ) → length out ≡ 9 + length bytes → a ≡ bigBytes 8 address
+pub text-is : (prefix address : ℕ) (bytes out a l l' : List ℕ) → length out ≡ 9 + length bytes
+    → a ≡ bigBytes 8 address
     → l ≡ putAt 1 (length a) a (set out 0 prefix) → l' ≡ putAt 9 (length bytes) bytes l
     → l' ≡ prefix ∷ (bigBytes 8 address ++ bytes)
 text-is prefix address bytes out a l l' h e f g =
     g
     ∙ ap (putAt 9 (length bytes) bytes)
-    (f ∙ ap₂ (λ (k : ℕ) (x : List ℕ). putAt 1 k x (set out 0 prefix)) (ap length e ∙ length-bigBytes 8 address) e)
+    (f ∙ ap₂ (λ (k : ℕ) (x : List ℕ). putAt 1 k x (set out 0 prefix)) (ap length e
+    ∙ length-bigBytes 8 address) e)
     ∙ text-laid prefix address bytes out h
 
 pub big-size : (a : List ℕ) (address : ℕ) → a ≡ bigBytes 8 address → length a ≡ 8

@@ -50,7 +50,8 @@ pub fn signed_text(prefix: u8, address: u64, bytes: &[u8], out: &mut [u8])
 // Copies bytes into a buffer from place k on.
 pub fn put(bytes: &[u8], out: &mut [u8], k: usize)
     requires { ⌜ k + length (now bytes) ≤ length (now out) ⌝ }
-    ensures { λ _. ⌜ now (out .exit) ≡ putAt k (length (now (bytes .entry))) (now (bytes .entry)) (now (out .entry)) ⌝ }
+    ensures { λ _. ⌜ now (out .exit) ≡ putAt k (length (now (bytes .entry))) (now (bytes .entry))
+        (now (out .entry)) ⌝ }
 {
     bytes::copy(bytes, &mut out[k..]);
 }

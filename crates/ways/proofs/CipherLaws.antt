@@ -32,21 +32,24 @@ rounds-more t w s n x z e h = record {
       ∙ rw add-one (ap (roundBy y w (suc n)) (h .by y shares));
 }
 
-pub through-done : (t u w s x₀ : List ℕ) (n : ℕ) (x z : List ℕ) → n ≡ 9 → x₀ ≡ addRoundKey w 0 s → Rounds t w n x₀ x
+pub through-done : (t u w s x₀ : List ℕ) (n : ℕ) (x z : List ℕ) → n ≡ 9 → x₀ ≡ addRoundKey w 0 s
+    → Rounds t w n x₀ x
     → Last u w x z
     → Through t u w s z
 unfolding cipherBy
 through-done t u w s x₀ n x z nine start h e =
     record {
       by = λ y shares puts.
-          e .by y puts ∙ ap (lastBy y w) (h .by y shares ∙ ap₂ (λ (k : ℕ) (b : List ℕ). roundsBy y w k b) nine start);
+          e .by y puts ∙ ap (lastBy y w) (h .by y shares ∙ ap₂ (λ (k : ℕ) (b : List ℕ). roundsBy y w k b)
+          nine start);
     }
 
 -- what the code makes of a block by the tables of either way
 pub through-there : (t w s z : List ℕ) → Table 256 mixedEntry t → Through t t w s z → z ≡ cipher w s
 through-there t w s z h run = run .by there (shares-there t h) (puts-there t h) ∙ there-cipher w s
 
-pub through-back : (t u v : List ℕ) (x f : Columns) (z : List ℕ) → Table 256 unmixedEntry t → Table 256 invSubByte u
+pub through-back : (t u v : List ℕ) (x f : Columns) (z : List ℕ) → Table 256 unmixedEntry t
+    → Table 256 invSubByte u
     → f ≡ changed x
     → Through t u v (blockOf f) z → flipped z ≡ eqInvCipher v (blockOf x)
 unfolding eqInvCipher
@@ -54,5 +57,6 @@ through-back t u v x f z h g turn run =
     ap flipped (run .by back (shares-back t h) (puts-back u g) ∙ ap (cipherBy back v) (block-changed x f turn))
 
 -- the code's way from a block to its cipher
-pub encipher-is : (t w s x z : List ℕ) → Table 256 mixedEntry t → x ≡ state (at s) → Through t t w x z → z ≡ cipher w s
+pub encipher-is : (t w s x z : List ℕ) → Table 256 mixedEntry t → x ≡ state (at s) → Through t t w x z
+    → z ≡ cipher w s
 encipher-is t w s x z h load run = through-there t w x z h run ∙ ap (cipher w) load ∙ cipher-state w s

@@ -34,7 +34,5 @@ returns c =
     (table .mixed .ensures) (load .columns-of .ensures .block) (run .through .ensures)
 
 pub encipher-to-spec : {M : Type 1} → statement M
-encipher-to-spec =
-    tie.close
-    (tie.spec (λ c κs. search needs) (λ c κs. search needs) (λ c κs. search needs) (λ c κs. search needs)
-    (λ c κs. search needs) (λ c κs. search needs) (λ c κs. search needs) returns)
+encipher-to-spec = tie.close (tie.spec (λ c κs. search needs) (λ c κs. search needs) (λ c κs. search needs)
+    (λ c κs. search needs) (λ c κs. search needs) (λ c κs. search needs) (λ c κs. search needs) returns)

@@ -15,12 +15,11 @@ returns c =
     let a = c .before .before .before .before .before .before .args in
     let l = a .whole .now in
     let e = a .a + length (a .part .now) in
-    ap (λ (y : List ℕ). take (a .a) l ++ (y ++ drop (e - a .a) (drop (a .a) l))) (c .before .before .copy .ensures .1)
+    ap (λ (y : List ℕ). take (a .a) l ++ (y ++ drop (e - a .a) (drop (a .a) l)))
+    (c .before .before .copy .ensures .1)
     ∙ part-copied l (a .part .now) (a .a) e (omega arith) (omega
     (arith, c .before .before .before .before .before .before .pre))
 
 pub store-spec : {M : Type 1} → statement M
-store-spec =
-    tie.close
-    (tie.spec (λ c. search needs) (λ c. search needs) (λ c. search needs) (λ c. search needs)
+store-spec = tie.close (tie.spec (λ c. search needs) (λ c. search needs) (λ c. search needs) (λ c. search needs)
     (λ c κs. search needs) (λ c. search needs) returns)

@@ -11,7 +11,5 @@ returns c =
     mac-done (start .args .n) _ _ _ (dropped .drop-line .ensures) (start .pre .1 .1) (c .before .before .store .ensures)
 
 pub write-mac-spec : {M : Type 1} → statement M
-write-mac-spec =
-    tie.close
-    (tie.spec (λ c κs. search needs) (λ c. search needs) (λ c κs. search needs) (λ c. search needs)
-    (λ c. search needs) (λ c. search needs) (λ c. search needs) returns)
+write-mac-spec = tie.close (tie.spec (λ c κs. search needs) (λ c. search needs) (λ c κs. search needs)
+    (λ c. search needs) (λ c. search needs) (λ c. search needs) (λ c. search needs) returns)

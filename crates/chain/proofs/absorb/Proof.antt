@@ -7,7 +7,8 @@ use lib.ListN.{length, drop}
 use native.Mathlib.Omega.{arith}
 use Rattle.rounds.specs.Words.{blockOf}
 use Rattle.aes_standard.specs.Chain.{absorbed, lastOfChain}
-use Rattle.chain.proofs.ChainLaws.{absorbed-one, absorbed-none, absorbed-from, absorbed-start, lastOfChain-none}
+use Rattle.chain.proofs.ChainLaws.{absorbed-one, absorbed-none, absorbed-from, absorbed-start}
+use Rattle.chain.proofs.ChainLaws.{lastOfChain-none}
 use Rattle.chain.proofs.absorb.Statement.{statement}
 use Rattle.chain.proofs.absorb.Tie as tie
 
@@ -48,7 +49,8 @@ unfolding lastOfChain
 returns-2 c =
     let args = c .before .before .before .before .before .before .before .args in
     let turn = c .before .before .loop in
-    c .bytes-of .ensures ∙ sym (absorbed-none (args .w .now) (length (args .b .now) / 16) (turn .i) (blockOf (turn .x))
+    c .bytes-of .ensures ∙ sym (absorbed-none (args .w .now) (length (args .b .now) / 16) (turn .i)
+    (blockOf (turn .x))
     (drop (turn .i * 16) (args .b .now)) (omega arith)) ∙ sym (turn .inv .1)
     ∙ ap (λ (z : List ℕ). absorbed (args .w .now) (length (args .b .now) / 16) z (args .b .now))
     (c .before .before .before .columns-of .ensures .block)
@@ -56,7 +58,6 @@ returns-2 c =
     arith)
 
 pub absorb-spec : {M : Type 1} → statement M
-absorb-spec =
-    tie.close
-    (tie.spec Inv-loop μ-loop returns (λ c κs. search needs) (λ c κs. search needs) loop-holds (λ c. search needs)
-    link-requires (λ c. search needs) (λ c. search needs) loop-again (λ c κs. search needs) returns-2)
+absorb-spec = tie.close (tie.spec Inv-loop μ-loop returns (λ c κs. search needs) (λ c κs. search needs) loop-holds
+    (λ c. search needs) link-requires (λ c. search needs) (λ c. search needs) loop-again (λ c κs. search needs)
+    returns-2)

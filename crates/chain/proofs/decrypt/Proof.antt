@@ -17,6 +17,5 @@ returns c =
     (words .expand .ensures) (inverse .invert .ensures)
 
 pub decrypt-spec : {M : Type 1} → statement M
-decrypt-spec =
-    tie.close
-    (tie.spec (λ c κs. search needs) (λ c κs. search needs) (λ c κs. search needs) (λ c. search needs) returns)
+decrypt-spec = tie.close (tie.spec (λ c κs. search needs) (λ c κs. search needs) (λ c κs. search needs)
+    (λ c. search needs) returns)

@@ -13,7 +13,8 @@ use Rattle.chain.proofs.encrypt.Statement.{statement}
 use Rattle.chain.proofs.encrypt.Tie as tie
 
 abbrev Inv-loop : tie.InvT-loop
-Inv-loop w iv b₀ t n x₀ i₀ b x i = (i ≤ n) × After i (chained w n (blockOf x₀) b₀) b₀ b (chained w (n - i) (blockOf x))
+Inv-loop w iv b₀ t n x₀ i₀ b x i = (i ≤ n) × After i (chained w n (blockOf x₀) b₀) b₀ b
+    (chained w (n - i) (blockOf x))
 
 abbrev μ-loop : tie.MeasureT-loop
 μ-loop w iv b₀ t n x₀ i₀ b x i = n - i
@@ -63,7 +64,6 @@ returns c =
     ∙ chained-from (args .w .now) (length (args .b .now) / 16) (args .iv .now) (args .b .now)
 
 pub encrypt-spec : {M : Type 1} → statement M
-encrypt-spec =
-    tie.close
-    (tie.spec Inv-loop μ-loop (λ c κs. search needs) (λ c κs. search needs) loop-holds (λ c. search needs) link-requires
-    store-requires (λ c. search needs) (λ c. search needs) loop-again same-length returns)
+encrypt-spec = tie.close (tie.spec Inv-loop μ-loop (λ c κs. search needs) (λ c κs. search needs) loop-holds
+    (λ c. search needs) link-requires store-requires (λ c. search needs) (λ c. search needs) loop-again same-length
+    returns)

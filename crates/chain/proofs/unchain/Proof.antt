@@ -82,7 +82,6 @@ returns c =
     (args .b .now)
 
 pub unchain-spec : {M : Type 1} → statement M
-unchain-spec =
-    tie.close
-    (tie.spec Inv-loop μ-loop (λ c κs. search needs) (λ c κs. search needs) (λ c κs. search needs) loop-holds
-    (λ c. search needs) columns-at-requires unlink-requires add-i (λ c. search needs) loop-again same-length returns)
+unchain-spec = tie.close (tie.spec Inv-loop μ-loop (λ c κs. search needs) (λ c κs. search needs)
+    (λ c κs. search needs) loop-holds (λ c. search needs) columns-at-requires unlink-requires add-i
+    (λ c. search needs) loop-again same-length returns)

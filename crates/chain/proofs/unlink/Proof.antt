@@ -85,8 +85,6 @@ returns c =
     (start .pre .0) (start .pre .1 .0) (flip .flip .ensures) (z .ensures)))
 
 pub unlink-spec : {M : Type 1} → statement M
-unlink-spec =
-    tie.close
-    (tie.spec (λ c κs. search needs) (λ c κs. search needs) (λ c κs. search needs) (λ c κs. search needs) add-put-word
-    put-word-requires-2 add-put-word-2 put-word-requires-3 add-put-word-3 put-word-requires-4 (λ c. search needs)
-    returns)
+unlink-spec = tie.close (tie.spec (λ c κs. search needs) (λ c κs. search needs) (λ c κs. search needs)
+    (λ c κs. search needs) add-put-word put-word-requires-2 add-put-word-2 put-word-requires-3 add-put-word-3
+    put-word-requires-4 (λ c. search needs) returns)

@@ -27,7 +27,5 @@ returns c =
     (first .shifted .ensures) (second .shifted2 .ensures) (third .shifted3 .ensures) (d .shifted4 .ensures)
 
 pub double-spec : {M : Type 1} → statement M
-double-spec =
-    tie.close
-    (tie.spec (λ c κs. search needs) (λ c κs. search needs) (λ c κs. search needs) (λ c κs. search needs)
-    (λ c κs. search needs) (λ c. search needs) (λ c κs. search needs) returns)
+double-spec = tie.close (tie.spec (λ c κs. search needs) (λ c κs. search needs) (λ c κs. search needs)
+    (λ c κs. search needs) (λ c κs. search needs) (λ c. search needs) (λ c κs. search needs) returns)

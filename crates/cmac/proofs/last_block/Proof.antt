@@ -27,7 +27,5 @@ returns-2 c =
     (c .sum2 .ensures ∙ ap (plus _) (key .double .ensures))
 
 pub last-block-spec : {M : Type 1} → statement M
-last-block-spec =
-    tie.close
-    (tie.spec (λ c. search needs) (λ c κs. search needs) (λ c κs. search needs) returns (λ c. search needs)
-    (λ c κs. search needs) (λ c κs. search needs) returns-2)
+last-block-spec = tie.close (tie.spec (λ c. search needs) (λ c κs. search needs) (λ c κs. search needs) returns
+    (λ c. search needs) (λ c κs. search needs) (λ c κs. search needs) returns-2)

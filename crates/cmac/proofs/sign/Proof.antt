@@ -26,8 +26,6 @@ returns c =
     (c .encipher .ensures)
 
 pub sign-spec : {M : Type 1} → statement M
-sign-spec =
-    tie.close
-    (tie.spec (λ c κs. search needs) (λ c κs. search needs) slice-aggregate-absorb (λ c κs. search needs)
-    (λ c. search needs) (λ c. search needs) (λ c. search needs) (λ c κs. search needs) (λ c κs. search needs)
-    (λ c κs. search needs) returns)
+sign-spec = tie.close (tie.spec (λ c κs. search needs) (λ c κs. search needs) slice-aggregate-absorb
+    (λ c κs. search needs) (λ c. search needs) (λ c. search needs) (λ c. search needs) (λ c κs. search needs)
+    (λ c κs. search needs) (λ c κs. search needs) returns)

@@ -15,6 +15,5 @@ returns c =
     (a .columns-of .ensures .block) (b .columns-of2 .ensures .block) (c .bytes-of .ensures ∙ c .before .plus .ensures)
 
 pub sum-spec : {M : Type 1} → statement M
-sum-spec =
-    tie.close
-    (tie.spec (λ c κs. search needs) (λ c κs. search needs) (λ c κs. search needs) (λ c κs. search needs) returns)
+sum-spec = tie.close (tie.spec (λ c κs. search needs) (λ c κs. search needs) (λ c κs. search needs)
+    (λ c κs. search needs) returns)

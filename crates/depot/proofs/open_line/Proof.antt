@@ -49,7 +49,5 @@ returns-5 c =
     (compared .same .ensures) (not-false _ (right .if4 .left)) (c .before .before .unseal .ensures)
 
 pub open-line-spec : {M : Type 1} → statement M
-open-line-spec =
-    tie.close
-    (tie.spec returns returns-2 returns-3 (λ c κs. search needs) (λ c. search needs) (λ c κs. search needs)
-    (λ c. search needs) returns-4 (λ c κs. search needs) (λ c. search needs) returns-5)
+open-line-spec = tie.close (tie.spec returns returns-2 returns-3 (λ c κs. search needs) (λ c. search needs)
+    (λ c κs. search needs) (λ c. search needs) returns-4 (λ c κs. search needs) (λ c. search needs) returns-5)

@@ -34,7 +34,5 @@ returns-4 c =
     (whole-copied (signed .data-mac .result) (args .mac .now) _ (search needs) (c .before .before .copy .ensures .1))
 
 pub seal-spec : {M : Type 1} → statement M
-seal-spec =
-    tie.close
-    (tie.spec returns returns-2 returns-3 (λ c κs. search needs) (λ c κs. search needs) (λ c. search needs)
-    (λ c κs. search needs) (λ c. search needs) (λ c. search needs) returns-4)
+seal-spec = tie.close (tie.spec returns returns-2 returns-3 (λ c κs. search needs) (λ c κs. search needs)
+    (λ c. search needs) (λ c κs. search needs) (λ c. search needs) (λ c. search needs) returns-4)

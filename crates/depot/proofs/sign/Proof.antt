@@ -47,7 +47,6 @@ returns-3 c =
     (c .before .before .copy .ensures .1))
 
 pub sign-spec : {M : Type 1} → statement M
-sign-spec =
-    tie.close
-    (tie.spec returns returns-2 (λ c. search needs) slice-aggregate-code-mac code-mac-requires (λ c. search needs)
-    (λ c. search needs) (λ c. search needs) (λ c. search needs) (λ c κs. search needs) (λ c. search needs) returns-3)
+sign-spec = tie.close (tie.spec returns returns-2 (λ c. search needs) slice-aggregate-code-mac code-mac-requires
+    (λ c. search needs) (λ c. search needs) (λ c. search needs) (λ c. search needs) (λ c κs. search needs)
+    (λ c. search needs) returns-3)

@@ -52,8 +52,7 @@ returns c =
     ∙ ap (macOf _) (text-all (turn .i) _ (turn .m) (omega arith) (turn .inv .2) (turn .inv .3))
 
 pub hash-spec : {M : Type 1} → statement M
-hash-spec =
-    tie.close
-    (tie.spec Inv-loop μ-loop (λ c. search needs) loop-holds (λ c. search needs) (λ c. search needs)
-    (λ c κs. search needs) slice-aggregate-put slice-aggregate-put-2 (λ c. search needs) (λ c. search needs)
-    put-requires (λ c. search needs) (λ c. search needs) loop-again slice-aggregate-mac-of (λ c κs. search needs) returns)
+hash-spec = tie.close (tie.spec Inv-loop μ-loop (λ c. search needs) loop-holds (λ c. search needs)
+    (λ c. search needs) (λ c κs. search needs) slice-aggregate-put slice-aggregate-put-2 (λ c. search needs)
+    (λ c. search needs) put-requires (λ c. search needs) (λ c. search needs) loop-again slice-aggregate-mac-of
+    (λ c κs. search needs) returns)

@@ -12,7 +12,8 @@ use Rattle.hiding.proofs.hide.Statement.{statement}
 use Rattle.hiding.proofs.hide.Tie as tie
 
 abbrev Inv-loop : tie.InvT-loop
-Inv-loop hi lo h r s q₀ i₀ q i = (1 ≤ i) × (i ≤ 32) × (length r ≡ 32) × (length s ≡ 256) × HiddenTo i s r q
+Inv-loop hi lo h r s q₀ i₀ q i = (1 ≤ i) × (i ≤ 32) × (length r ≡ 32) × (length s ≡ 256)
+    × HiddenTo i s r q
 
 abbrev μ-loop : tie.MeasureT-loop
 μ-loop hi lo h r s q₀ i₀ q i = 32 - i
@@ -52,8 +53,6 @@ returns c =
     ∙ ap (λ (s : List ℕ). xoredBehind 8 s (stream .before .args .t4)) (stream .key-stream .ensures)
 
 pub hide-spec : {M : Type 1} → statement M
-hide-spec =
-    tie.close
-    (tie.spec Inv-loop μ-loop (λ c κs. search needs) loop-holds (λ c. search needs) (λ c. search needs)
-    slice-aggregate-word-at (λ c. search needs) (λ c. search needs) word-at-requires (λ c. search needs)
-    (λ c. search needs) (λ c. search needs) (λ c. search needs) loop-again returns)
+hide-spec = tie.close (tie.spec Inv-loop μ-loop (λ c κs. search needs) loop-holds (λ c. search needs)
+    (λ c. search needs) slice-aggregate-word-at (λ c. search needs) (λ c. search needs) word-at-requires
+    (λ c. search needs) (λ c. search needs) (λ c. search needs) (λ c. search needs) loop-again returns)

@@ -57,8 +57,6 @@ returns c =
     (turn .s) (omega arith) (key .line-key .ensures) (words .expand .ensures) (turn .inv .1)
 
 pub key-stream-spec : {M : Type 1} → statement M
-key-stream-spec =
-    tie.close
-    (tie.spec Inv-loop μ-loop (λ c κs. search needs) (λ c κs. search needs) loop-holds (λ c κs. search needs)
-    (λ c κs. search needs) slice-aggregate-put slice-aggregate-put-2 (λ c. search needs) (λ c. search needs)
-    put-requires (λ c. search needs) (λ c. search needs) loop-again returns)
+key-stream-spec = tie.close (tie.spec Inv-loop μ-loop (λ c κs. search needs) (λ c κs. search needs) loop-holds
+    (λ c κs. search needs) (λ c κs. search needs) slice-aggregate-put slice-aggregate-put-2 (λ c. search needs)
+    (λ c. search needs) put-requires (λ c. search needs) (λ c. search needs) loop-again returns)

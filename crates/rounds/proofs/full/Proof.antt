@@ -17,7 +17,5 @@ returns c =
     (full-round (args .t .now) (args .w .now) (args .r) (args .x) (key .result) (key .ensures))
 
 pub full-spec : {M : Type 1} → statement M
-full-spec =
-    tie.close
-    (tie.spec (λ c κs. search needs) (λ c κs. search needs) (λ c κs. search needs) (λ c κs. search needs)
-    (λ c κs. search needs) returns)
+full-spec = tie.close (tie.spec (λ c κs. search needs) (λ c κs. search needs) (λ c κs. search needs)
+    (λ c κs. search needs) (λ c κs. search needs) returns)

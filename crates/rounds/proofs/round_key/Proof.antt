@@ -12,8 +12,6 @@ returns c =
     record { first = ap (at (args .w .now)) (sym (add-zero _)); second = refl; third = refl; fourth = refl }
 
 pub round-key-spec : {M : Type 1} → statement M
-round-key-spec =
-    tie.close
-    (tie.spec (λ c. search needs) (λ c. search needs) (λ c. search needs) (λ c. search needs) (λ c. search needs)
+round-key-spec = tie.close (tie.spec (λ c. search needs) (λ c. search needs) (λ c. search needs) (λ c. search needs)
     (λ c. search needs) (λ c. search needs) (λ c. search needs) (λ c. search needs) (λ c. search needs)
-    (λ c. search needs) (λ c. search needs) returns)
+    (λ c. search needs) (λ c. search needs) (λ c. search needs) returns)

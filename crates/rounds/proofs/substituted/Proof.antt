@@ -12,7 +12,6 @@ returns c =
     picked-is (λ x. x) (args .t .now) (args .a) (args .b) (args .c) (args .d) (args .k) _ (c .word-of .ensures .is)
 
 pub substituted-spec : {M : Type 1} → statement M
-substituted-spec =
-    tie.close
-    (tie.spec (λ c. search needs) (λ c. search needs) (λ c. search needs) (λ c. search needs) (λ c. search needs)
-    (λ c. search needs) (λ c. search needs) (λ c. search needs) (λ c κs. search needs) returns)
+substituted-spec = tie.close (tie.spec (λ c. search needs) (λ c. search needs) (λ c. search needs)
+    (λ c. search needs) (λ c. search needs) (λ c. search needs) (λ c. search needs) (λ c. search needs)
+    (λ c κs. search needs) returns)

@@ -14,7 +14,8 @@ use Rattle.schedule.proofs.expand.Statement.{statement}
 use Rattle.schedule.proofs.expand.Tie as tie
 
 abbrev Inv-loop : tie.InvT-loop
-Inv-loop key t constants w₀ x₀ r₀ w x r = (r ≤ 10) × Table 10 (λ k. rcon (k + 1)) constants × LaidTo key r w x
+Inv-loop key t constants w₀ x₀ r₀ w x r = (r ≤ 10) × Table 10 (λ k. rcon (k + 1)) constants
+    × LaidTo key r w x
 
 abbrev μ-loop : tie.MeasureT-loop
 μ-loop key t constants w₀ x₀ r₀ w x r = 10 - r
@@ -49,8 +50,6 @@ returns c =
     laid-all (args .key .now) (turn .w) (turn .r) (turn .x) (omega arith) (turn .inv .2)
 
 pub expand-spec : {M : Type 1} → statement M
-expand-spec =
-    tie.close
-    (tie.spec Inv-loop μ-loop (λ c κs. search needs) (λ c κs. search needs) (λ c κs. search needs) loop-holds
-    (λ c. search needs) (λ c. search needs) (λ c κs. search needs) (λ c. search needs) (λ c κs. search needs)
-    (λ c. search needs) loop-again returns)
+expand-spec = tie.close (tie.spec Inv-loop μ-loop (λ c κs. search needs) (λ c κs. search needs)
+    (λ c κs. search needs) loop-holds (λ c. search needs) (λ c. search needs) (λ c κs. search needs)
+    (λ c. search needs) (λ c κs. search needs) (λ c. search needs) loop-again returns)

@@ -26,7 +26,6 @@ returns-3 c =
     (c .before .before .unmixed2 .ensures) (c .before .unmixed3 .ensures) (c .unmixed4 .ensures)
 
 pub inverse-key-spec : {M : Type 1} → statement M
-inverse-key-spec =
-    tie.close
-    (tie.spec (λ c κs. search needs) (λ c κs. search needs) returns (λ c κs. search needs) returns-2
-    (λ c κs. search needs) (λ c κs. search needs) (λ c κs. search needs) (λ c κs. search needs) returns-3)
+inverse-key-spec = tie.close (tie.spec (λ c κs. search needs) (λ c κs. search needs) returns
+    (λ c κs. search needs) returns-2 (λ c κs. search needs) (λ c κs. search needs) (λ c κs. search needs)
+    (λ c κs. search needs) returns-3)

@@ -37,7 +37,6 @@ returns c =
     keys-all (c .before .before .before .before .args .w .now) (turn .v) (turn .r) (omega arith) (turn .inv .2)
 
 pub invert-spec : {M : Type 1} → statement M
-invert-spec =
-    tie.close
-    (tie.spec Inv-loop μ-loop (λ c κs. search needs) (λ c κs. search needs) loop-holds (λ c. search needs)
-    (λ c κs. search needs) (λ c κs. search needs) (λ c. search needs) (λ c. search needs) loop-again returns)
+invert-spec = tie.close (tie.spec Inv-loop μ-loop (λ c κs. search needs) (λ c κs. search needs) loop-holds
+    (λ c. search needs) (λ c κs. search needs) (λ c κs. search needs) (λ c. search needs) (λ c. search needs)
+    loop-again returns)

@@ -10,4 +10,5 @@ unfolding codeMac signedText
 returns c = c .mac-of .ensures ∙ ap (macOf _) (c .before .before .before .signed-text .ensures)
 
 pub code-mac-spec : {M : Type 1} → statement M
-code-mac-spec = tie.close (tie.spec (λ c. search needs) (λ c κs. search needs) (λ c. search needs) (λ c κs. search needs) returns)
+code-mac-spec = tie.close (tie.spec (λ c. search needs) (λ c κs. search needs) (λ c. search needs)
+    (λ c κs. search needs) returns)

@@ -10,4 +10,5 @@ unfolding dataMac signedText
 returns c = c .mac-of .ensures ∙ ap (macOf _) (c .before .before .before .signed-text .ensures)
 
 pub data-mac-spec : {M : Type 1} → statement M
-data-mac-spec = tie.close (tie.spec (λ c. search needs) (λ c κs. search needs) (λ c. search needs) (λ c κs. search needs) returns)
+data-mac-spec = tie.close (tie.spec (λ c. search needs) (λ c κs. search needs) (λ c. search needs)
+    (λ c κs. search needs) returns)

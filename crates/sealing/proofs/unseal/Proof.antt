@@ -19,7 +19,5 @@ returns c =
     (key .line-key .ensures) (vector .before .before .expand .ensures) (vector .start-vector .ensures)
 
 pub unseal-spec : {M : Type 1} → statement M
-unseal-spec =
-    tie.close
-    (tie.spec (λ c κs. search needs) (λ c κs. search needs) (λ c κs. search needs) (λ c κs. search needs)
-    (λ c. search needs) returns)
+unseal-spec = tie.close (tie.spec (λ c κs. search needs) (λ c κs. search needs) (λ c κs. search needs)
+    (λ c κs. search needs) (λ c. search needs) returns)

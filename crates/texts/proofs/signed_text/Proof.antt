@@ -35,7 +35,5 @@ returns c =
     (word .big .ensures) (first .put .ensures) (second .put2 .ensures)
 
 pub signed-text-spec : {M : Type 1} → statement M
-signed-text-spec =
-    tie.close
-    (tie.spec (λ c κs. search needs) (λ c. search needs) (λ c. search needs) put-requires put-requires-2 same-length
-    returns)
+signed-text-spec = tie.close (tie.spec (λ c κs. search needs) (λ c. search needs) (λ c. search needs) put-requires
+    put-requires-2 same-length returns)

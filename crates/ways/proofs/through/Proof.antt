@@ -43,7 +43,5 @@ returns c =
     (c .last .ensures)
 
 pub through-spec : {M : Type 1} → statement M
-through-spec =
-    tie.close
-    (tie.spec Inv-loop μ-loop (λ c κs. search needs) loop-holds (λ c. search needs) (λ c κs. search needs)
-    (λ c. search needs) loop-again (λ c κs. search needs) returns)
+through-spec = tie.close (tie.spec Inv-loop μ-loop (λ c κs. search needs) loop-holds (λ c. search needs)
+    (λ c κs. search needs) (λ c. search needs) loop-again (λ c κs. search needs) returns)

@@ -27,7 +27,8 @@ use prog.Wp.{Heap, Out, Env, afterSeq, afterBlock, afterTurn, Calls, Loops, Wp, 
 use ghost.Atoms.{Atoms, sem}
 use contract.Monad.{Fun, fact}
 use contract.Running.{givenOf, tables, tablesOf}
-use types.Kit.{Given, Item, ‵, raw, _⊛_, some, later, ⋆, lands, runs, anyQ, atRet, Sq, _$_, _∵_, !, qed, move, keep}
+use types.Kit.{Given, Item, ‵, raw, _⊛_, some, later, ⋆, lands, runs, anyQ, atRet, Sq, _$_, _∵_, !, qed, move}
+use types.Kit.{keep}
 use types.Kit.{drop, use1, split, join, pick, regoal, rewrite, group, fsplit, fsplit3, fjoin, feqI, await, updating}
 use types.Kit.{now as at-once, show, frame, done}
 use types.Run.{look, look-raw, init, store, store-raw, forget, stop, hop, fld, from, load, lit, of-opd, bin, no-more}
@@ -92,20 +93,24 @@ use Rattle.board.proofs.listing.hq_list_slots.Code as code
 use Rattle.board.proofs.listing.hq_list_slots.Code.Mir as body
 
 -- the contracts that the proof cites
-module _ {M : Type 1} (𝓤 : URA M) (H : Heap 𝓤) (A : Atoms 𝓤) (mem₀ : Memory → SProp 𝓤) (run : Routine → Fun 𝓤) where
+module _ {M : Type 1} (𝓤 : URA M) (H : Heap 𝓤) (A : Atoms 𝓤) (mem₀ : Memory → SProp 𝓤) (run : Routine
+    → Fun 𝓤) where
   abbrev Planned : Contract 𝓤
   Planned = tripleOf 𝓤 H A planned.signature (planned.spec 𝓤 H A mem₀ run)
 
   abbrev RowAt : Contract 𝓤
   RowAt = tripleOf 𝓤 H A row-at.signature (row-at.spec 𝓤 H A mem₀ run)
 
-module _ {M : Type 1} (𝓤 : URA M) (H : Heap 𝓤) (A : Atoms 𝓤) (W : Given 𝓤 H A) (mem₀ : Memory → SProp 𝓤)
+module _ {M : Type 1} (𝓤 : URA M) (H : Heap 𝓤) (A : Atoms 𝓤) (W : Given 𝓤 H A) (mem₀ : Memory
+    → SProp 𝓤)
     (run : Routine → Fun 𝓤) (𝓣 : Tables 𝓤 H)
     (known-planned : Triple 𝓤 (𝓣 .C planned-def.name) (Planned 𝓤 H A mem₀ run))
     (known-row : Triple 𝓤 (𝓣 .C row-at-def.name) (RowAt 𝓤 H A mem₀ run))
-    (κ₀ κ₁ κ₂ κ₃ κ₄ κ₅ : Lft) (q₀ q₁ q₂ q₃ q₄ q₅ : Share) (p : RefT Processor) (m₁ m₂ m₃ d : RefT (List ℕ))
+    (κ₀ κ₁ κ₂ κ₃ κ₄ κ₅ : Lft) (q₀ q₁ q₂ q₃ q₄ q₅ : Share) (p : RefT Processor)
+    (m₁ m₂ m₃ d : RefT (List ℕ))
     (r : RefT (List LineRecord))
-    (fits₁ : length (m₁ .now) < 2 ^ 64) (fits₂ : length (m₂ .now) < 2 ^ 64) (fits₃ : length (m₃ .now) < 2 ^ 64)
+    (fits₁ : length (m₁ .now) < 2 ^ 64) (fits₂ : length (m₂ .now) < 2 ^ 64)
+    (fits₃ : length (m₃ .now) < 2 ^ 64)
     (fits₄ : length (d .now) < 2 ^ 64) (room : Room L.the-row (length (r .now))) where
   abbrev C : Calls 𝓤 H
   C = 𝓣 .C
@@ -162,7 +167,8 @@ module _ {M : Type 1} (𝓤 : URA M) (H : Heap 𝓤) (A : Atoms 𝓤) (W : Given
   Made k = Plans (listingRefusal documentBoard (machineIn was-lent) (length (r .now))) (length (r .now)) k
 
   made-of : (k : Plan) → ent 𝓤 (ensured 𝓤 H A planned.ended (planned.clauses 𝓤 H A mem₀ run)
-      (κ₁, (κ₂, (κ₃, (κ₄, tt)))) (p .now, (m₁, (m₂, (m₃, (d, (length (r .now), tt)))))) tt k) (fact 𝓤 (Made k))
+      (κ₁, (κ₂, (κ₃, (κ₄, tt)))) (p .now, (m₁, (m₂, (m₃, (d, (length (r .now), tt)))))) tt k)
+      (fact 𝓤 (Made k))
   made-of k = exE 𝓤 _ (λ ws. snd∗ 𝓤 (sem 𝓤 H A (lasts planned.ended (κ₁, (κ₂, (κ₃, (κ₄, tt))))
       (p .now, (m₁, (m₂, (m₃, (d, (length (r .now), tt)))))) ws)) (fact 𝓤 (Made k)))
 
@@ -170,7 +176,8 @@ module _ {M : Type 1} (𝓤 : URA M) (H : Heap 𝓤) (A : Atoms 𝓤) (W : Given
   abbrev to-row : ℕ → RowAt 𝓤 H A mem₀ run .Ghost
   to-row i = (((κ₄, tt), (q₄, tt), tt, (d, (i, tt)), (slice-vals d, (vint w64 i ∷ [], tt))), tt)
 
-  row-of : (i : ℕ) (c : LineRecord) → ent 𝓤 (ensured 𝓤 H A row-at.ended (row-at.clauses 𝓤 H A mem₀ run) (κ₄, tt)
+  row-of : (i : ℕ) (c : LineRecord)
+      → ent 𝓤 (ensured 𝓤 H A row-at.ended (row-at.clauses 𝓤 H A mem₀ run) (κ₄, tt)
       (d, (i, tt)) tt c) (fact 𝓤 (c ≡ rowAt direct (d .now) i))
   row-of i c = exE 𝓤 _ (λ ws. snd∗ 𝓤 (sem 𝓤 H A (lasts row-at.ended (κ₄, tt) (d, (i, tt)) ws))
       (fact 𝓤 (c ≡ rowAt direct (d .now) i)))
@@ -211,10 +218,12 @@ module _ {M : Type 1} (𝓤 : URA M) (H : Heap 𝓤) (A : Atoms 𝓤) (W : Given
 
     abbrev At : Upto → List (Item 𝓤)
     At i = ‵ (row L.the-row fullShare (upto (i .0)) b o) ∷ Dir ∷ ‵ (flft κ₄ q₄) ∷
-        (held 𝓤 H E (none ∷ just (vptr (p .ptr .0) (p .ptr .1)) ∷ just (sliceVal (m₁ .ptr) (length (m₁ .now)))
+        (held 𝓤 H E (none ∷ just (vptr (p .ptr .0) (p .ptr .1))
+        ∷ just (sliceVal (m₁ .ptr) (length (m₁ .now)))
         ∷ just (sliceVal (m₂ .ptr) (length (m₂ .now))) ∷ just (sliceVal (m₃ .ptr) (length (m₃ .now)))
         ∷ just (sliceVal (d .ptr) (length (d .now))) ∷ just (sliceVal (r .ptr) (length (r .now)))
-        ∷ just (planVal k) ∷ just (vint w64 (i .0)) ∷ just (recordVal (p .now)) ∷ just (vint w64 (length (r .now)))
+        ∷ just (planVal k) ∷ just (vint w64 (i .0)) ∷ just (recordVal (p .now))
+        ∷ just (vint w64 (length (r .now)))
         ∷ [])
         ++ (‵ (deaths 𝓤 H E) ∷ ‵ (fobor κ₅ q₅ (Held L.the-row (length (r .now)) b o (r .name)))
         ∷ ‵ (fobs (r .name) (codedHoleys L.the-row .code (heres L.the-row (r .now))))
@@ -253,16 +262,19 @@ module _ {M : Type 1} (𝓤 : URA M) (H : Heap 𝓤) (A : Atoms 𝓤) (W : Given
         rewrite ! 14 (λ (t : Bool). ‵ (fat fullShare tyBool (bs .1 .1 .1 .1 .1 .1 .1 .1 .1 .1 .1 .0) 0
         (vbool t))) less refl $ stays ! (load ! (from ! (stop !)) (look ! 14 refl)) $
         -- what `row_at` asks is put together, with the directory kept
-        move ! (1 ∷ []) $ use1 W (Dir ⊛ Dir) (shr-slice-copy 𝓤 H A W (named 0) κ₄ u32 .twice d (slice-vals d)) $
+        move ! (1 ∷ []) $ use1 W (Dir ⊛ Dir) (shr-slice-copy 𝓤 H A W (named 0) κ₄ u32 .twice d (slice-vals d))
+        $
         split ! $
         nothing ! $ owned ! usize (Is usize) (uint-makes 𝓤 H A W w64) (i .0) _ (refl, lt-trans l (room .0)) $
-        fjoin ! $ move ! (1 ∷ 0 ∷ []) $ fjoin ! $ nothing ! $ move ! (4 ∷ 0 ∷ []) $ join ! $ join ! $ nothing ! $
+        fjoin ! $ move ! (1 ∷ 0 ∷ []) $ fjoin ! $ nothing ! $ move ! (4 ∷ 0 ∷ []) $ join ! $ join ! $ nothing !
+        $
         move ! (1 ∷ 0 ∷ []) $ join ! $
         use1 W (raw (RowAt 𝓤 H A mem₀ run .pre (to-row (i .0)))) (id⊢ 𝓤 _) $
         -- [what is asked; dir; the row; the locals; ..]
         calls-at ! (fmOf 𝓤 H (W .laws) 𝓣) (RowAt 𝓤 H A mem₀ run) known-row (to-row (i .0))
         (operand ! (look ! 8 refl) (operand ! (look ! 11 refl) (no-more !))) (λ w.
-        use1 W (later (some (λ (c : LineRecord). ((‵ (flft κ₄ q₄) ⊛ ‵ ftrue) ⊛ ‵ (L.the-row .own c (w ∷ [])))
+        use1 W (later (some (λ (c : LineRecord).
+        ((‵ (flft κ₄ q₄) ⊛ ‵ ftrue) ⊛ ‵ (L.the-row .own c (w ∷ [])))
         ⊛ raw (ensured 𝓤 H A row-at.ended (row-at.clauses 𝓤 H A mem₀ run) (κ₄, tt) (d, (i .0, tt)) tt c))))
         (id⊢ 𝓤 _) $ await ! tt $ pick ! (λ c.
         split ! $ move ! (1 ∷ []) $ use1 W (raw (fact 𝓤 (c ≡ rowAt direct (d .now) (i .0)))) (row-of (i .0) c) $
@@ -280,7 +292,8 @@ module _ {M : Type 1} (𝓤 : URA M) (H : Heap 𝓤) (A : Atoms 𝓤) (W : Given
         assigns ! (bin ! (load ! (from ! (fld ! refl (stop !))) (look-in ! 9 (sub ! 0 refl (whole !))))
         (load ! (from ! (stop !)) (look ! 16 refl)) tt) (from ! (stop !)) (init ! 17 refl (tt, tt)) $
         -- the record is taken out of the row, and the new one put in its place
-        move ! (2 ∷ []) $ elem-out ! L.the-row (Is L.the-row) (shows 𝓤 H A L.the-row) (LL.vals L.the-type L′.the-laws)
+        move ! (2 ∷ []) $ elem-out ! L.the-row (Is L.the-row) (shows 𝓤 H A L.the-row)
+        (LL.vals L.the-type L′.the-laws)
         (LL.tells L.the-type L′.the-laws) fullShare (upto (i .0)) (i .0) c b o (there (i .0) l) (λ _.
         rewrite ! 0 (λ (z : ℕ). ‵ (cellAt fullShare (L.the-row .mir) (lineVal (getD (upto (i .0)) (i .0) c)
         ∷ []) b z)) (place-is 16 o (i .0)) refl $
@@ -288,7 +301,8 @@ module _ {M : Type 1} (𝓤 : URA M) (H : Heap 𝓤) (A : Atoms 𝓤) (W : Given
         (store-raw ! 0 refl (LL.lawful L.the-type L′.the-laws 𝓤 H A W .typed c _ isc .0)) $
         rewrite ! 0 (λ (z : ℕ). ‵ (cellAt fullShare (L.the-row .mir) (lineVal c ∷ []) b z))
         (sym (place-is 16 o (i .0))) refl $
-        move ! (1 ∷ []) $ drop ! $ owned ! L.the-row (Is L.the-row) (LL.makes L.the-type L′.the-plain 𝓤 H A) c _ isc $
+        move ! (1 ∷ []) $ drop ! $ owned ! L.the-row (Is L.the-row) (LL.makes L.the-type L′.the-plain 𝓤 H A) c _
+        isc $
         move ! (1 ∷ 0 ∷ []) $ elem-put ! L.the-row fullShare (upto (i .0)) (i .0) c (lineVal c ∷ []) b o
         (there (i .0) l) $
         rewrite ! 0 (λ (u : LineRecord). ‵ (row L.the-row fullShare (set (upto (i .0)) (i .0) u) b o)) e refl $
@@ -304,17 +318,21 @@ module _ {M : Type 1} (𝓤 : URA M) (H : Heap 𝓤) (A : Atoms 𝓤) (W : Given
 
     -- at the end the row's last value is known, and it is what the contract says
     ends : Is R.the-row (k .report) (reportVal (k .report) ∷ [])
-        → ent 𝓤 (⋆ 𝓤 H A (‵ (fobs (r .name) (codedHoleys L.the-row .code (heres L.the-row (upto n)))) ∷ ‵ (flft κ₀ q₀)
-        ∷ ‵ (flft κ₁ q₁) ∷ ‵ (flft κ₂ q₂) ∷ ‵ (flft κ₃ q₃) ∷ ‵ (flft κ₄ q₄) ∷ ‵ (flft κ₅ q₅) ∷ []))
+        → ent 𝓤 (⋆ 𝓤 H A (‵ (fobs (r .name) (codedHoleys L.the-row .code (heres L.the-row (upto n))))
+        ∷ ‵ (flft κ₀ q₀)
+        ∷ ‵ (flft κ₁ q₁) ∷ ‵ (flft κ₂ q₂) ∷ ‵ (flft κ₃ q₃) ∷ ‵ (flft κ₄ q₄)
+        ∷ ‵ (flft κ₅ q₅) ∷ []))
         (Post (reportVal (k .report)))
     ends is =
         qed W (‵ (fobs (r .name) (codedHoleys L.the-row .code (heres L.the-row (upto n)))) ∷ ‵ (flft κ₀ q₀)
-        ∷ ‵ (flft κ₁ q₁) ∷ ‵ (flft κ₂ q₂) ∷ ‵ (flft κ₃ q₃) ∷ ‵ (flft κ₄ q₄) ∷ ‵ (flft κ₅ q₅) ∷ []) ∵ updating ! $
+        ∷ ‵ (flft κ₁ q₁) ∷ ‵ (flft κ₂ q₂) ∷ ‵ (flft κ₃ q₃) ∷ ‵ (flft κ₄ q₄)
+        ∷ ‵ (flft κ₅ q₅) ∷ []) ∵ updating ! $
         at-once ! $
         show ! (λ (y : Report). sep 𝓤 (sep 𝓤 (alive 𝓤 H A face.signature κs qs)
         (sem 𝓤 H A (R.the-row .own y (reportVal (k .report) ∷ []))))
         (ensured 𝓤 H A face.ended (face.clauses 𝓤 H A mem₀ run) κs args tt y)) (k .report) $
-        nothing ! $ move ! (7 ∷ 0 ∷ []) $ join ! $ move ! (6 ∷ 0 ∷ []) $ join ! $ move ! (5 ∷ 0 ∷ []) $ join ! $
+        nothing ! $ move ! (7 ∷ 0 ∷ []) $ join ! $ move ! (6 ∷ 0 ∷ []) $ join ! $ move ! (5 ∷ 0 ∷ []) $ join
+        ! $
         move ! (4 ∷ 0 ∷ []) $ join ! $ move ! (3 ∷ 0 ∷ []) $ join ! $ move ! (2 ∷ 0 ∷ []) $ join ! $
         owned ! R.the-row (Is R.the-row) (LL.makes R.the-type R′.the-plain 𝓤 H A) (k .report) _ is $
         move ! (1 ∷ 0 ∷ []) $ join ! $ frame ! $
@@ -328,7 +346,8 @@ module _ {M : Type 1} (𝓤 : URA M) (H : Heap 𝓤) (A : Atoms 𝓤) (W : Given
         (upto n)) $
         feqI ! ℕ (length (upto n)) (length (r .now)) (length-written (rowAt direct (d .now)) n (r .now)) $
         move ! (1 ∷ 0 ∷ []) $ fjoin ! $
-        nothing ! $ move ! (1 ∷ 0 ∷ []) $ fjoin ! $ nothing ! $ fjoin ! $ nothing ! $ fjoin ! $ nothing ! $ fjoin ! $
+        nothing ! $ move ! (1 ∷ 0 ∷ []) $ fjoin ! $ nothing ! $ fjoin ! $ nothing ! $ fjoin ! $ nothing ! $ fjoin !
+        $
         nothing ! $ fjoin ! $ nothing ! $ fjoin ! $ done !
 
     leaves : (i : Upto) → ltb (i .0) n ≡ false → Sq W (At i) (runs C Λ E body.turn-1 (anyQ (Turned i)))
@@ -352,7 +371,8 @@ module _ {M : Type 1} (𝓤 : URA M) (H : Heap 𝓤) (A : Atoms 𝓤) (W : Given
         returns ! (look ! 5 refl) $ forget ! 5 refl $ forget ! 6 refl $ forget ! 7 refl $ forget ! 8 refl $
         forget ! 9 refl $ forget ! 10 refl $ forget ! 11 refl $ forget ! 12 refl $ forget ! 13 refl $
         forget ! 14 refl $ forget ! 15 refl $ forget ! 16 refl $
-        move ! (1 ∷ 3 ∷ []) $ drop ! $ drop ! $ move ! (0 ∷ 19 ∷ 20 ∷ 21 ∷ 22 ∷ 2 ∷ 1 ∷ []) $ group ! 7 $
+        move ! (1 ∷ 3 ∷ []) $ drop ! $ drop ! $ move ! (0 ∷ 19 ∷ 20 ∷ 21 ∷ 22 ∷ 2 ∷ 1 ∷ []) $ group !
+        7 $
         use1 W (raw (Post (reportVal (k .report)))) (ends (parts .1 .0)) $ vacates ! _ _ _
 
     turns : (i : Upto) → Sq W (At i) (runs C Λ E body.turn-1 (anyQ (Turned i)))
@@ -361,15 +381,19 @@ module _ {M : Type 1} (𝓤 : URA M) (H : Heap 𝓤) (A : Atoms 𝓤) (W : Given
   walk : ent 𝓤 (onEntry 𝓤 H A face.signature κs qs args vals)
       (WpFn 𝓤 H C Λ code.function (flat (typesAt (face.signature .params) κs) vals) Post)
   walk =
-      qed W ((‵ (flft κ₀ q₀) ⊛ ‵ (flft κ₁ q₁) ⊛ ‵ (flft κ₂ q₂) ⊛ ‵ (flft κ₃ q₃) ⊛ ‵ (flft κ₄ q₄) ⊛ ‵ (flft κ₅ q₅)
+      qed W ((‵ (flft κ₀ q₀) ⊛ ‵ (flft κ₁ q₁) ⊛ ‵ (flft κ₂ q₂) ⊛ ‵ (flft κ₃ q₃) ⊛
+      ‵ (flft κ₄ q₄) ⊛ ‵ (flft κ₅ q₅)
       ⊛ ‵ ftrue) ∷ ‵ (owns (typesAt (face.signature .params) κs) args vals) ∷ []) ∵
-      split ! $ move ! (1 ∷ []) $ split ! $ move ! (1 ∷ []) $ split ! $ move ! (1 ∷ []) $ split ! $ move ! (1 ∷ []) $
+      split ! $ move ! (1 ∷ []) $ split ! $ move ! (1 ∷ []) $ split ! $ move ! (1 ∷ []) $ split ! $ move !
+      (1 ∷ []) $
       split ! $ move ! (1 ∷ []) $ split ! $
       -- [κ₅; true; κ₄; κ₃; κ₂; κ₁; κ₀; what the arguments own]
       move ! (7 ∷ []) $ fsplit ! $ fsplit3 ! $ drop ! $ drop ! $ move ! (1 ∷ []) $ fsplit ! $ move ! (1 ∷ []) $
-      fsplit ! $ move ! (1 ∷ []) $ fsplit ! $ move ! (1 ∷ []) $ fsplit ! $ move ! (1 ∷ []) $ fsplit ! $ fsplit3 ! $
+      fsplit ! $ move ! (1 ∷ []) $ fsplit ! $ move ! (1 ∷ []) $ fsplit ! $ move ! (1 ∷ []) $ fsplit ! $ fsplit3 !
+      $
       drop ! $
-      -- [obs; the row's borrow; true; dir; cache; macs; mem; the record's borrow; κ₅; true; κ₄; κ₃; κ₂; κ₁; κ₀]
+      -- [obs; the row's borrow; true; dir; cache; macs; mem; the record's borrow; κ₅; true; κ₄; κ₃; κ₂;
+      -- κ₁; κ₀]
       keep ! (7 ∷ 14 ∷ 0 ∷ 1 ∷ 8 ∷ 3 ∷ 4 ∷ 5 ∷ 6 ∷ 10 ∷ 11 ∷ 12 ∷ 13 ∷ []) $
       enter ! C Λ code.function _ _ $ allocates ! (λ bs. receives ! _ _ _ _ (
         (tt, tt),
@@ -382,7 +406,8 @@ module _ {M : Type 1} (𝓤 : URA M) (H : Heap 𝓤) (A : Atoms 𝓤) (W : Given
         ),
       ) $
       move ! (16 ∷ 17 ∷ []) $ looks ! tt P.the-row (Is P.the-row) (shows 𝓤 H A P.the-row)
-      (LL.vals P.the-type P′.the-laws) (LL.tells P.the-type P′.the-laws) (LL.copy P.the-type P′.the-copy 𝓤 H A W)
+      (LL.vals P.the-type P′.the-laws) (LL.tells P.the-type P′.the-laws)
+      (LL.copy P.the-type P′.the-copy 𝓤 H A W)
       (p .now) (p .ptr .0) (p .ptr .1) (λ q′ vs.
       spelt ! P.the-row (Is P.the-row) (shows 𝓤 H A P.the-row) (LL.vals P.the-type P′.the-laws)
       (LL.tells P.the-type P′.the-laws) q′ (p .now) vs (p .ptr .0) (p .ptr .1) $
@@ -390,18 +415,22 @@ module _ {M : Type 1} (𝓤 : URA M) (H : Heap 𝓤) (A : Atoms 𝓤) (W : Given
       ∷ []) (λ was. move ! (1 ∷ 0 ∷ []) $
       assigns ! (of-opd ! (load ! (from ! (hop ! (look ! 5 refl) (stop !))) (look-raw ! 0 refl))) (from ! (stop !))
       (init ! 13 refl (LL.lawful P.the-type P′.the-laws 𝓤 H A W .typed (p .now) _ was .0)) $
-      shuts ! tt P.the-row q′ (p .now) (recordVal (p .now) ∷ []) (p .ptr .0) (p .ptr .1) $ move ! (1 ∷ []) $ drop ! $
-      -- [κ₀; the locals; what gives them back; obs; the row's borrow; κ₅; dir; cache; macs; mem; κ₄; κ₃; κ₂; κ₁]
+      shuts ! tt P.the-row q′ (p .now) (recordVal (p .now) ∷ []) (p .ptr .0) (p .ptr .1) $ move ! (1 ∷ []) $ drop
+      ! $
+      -- [κ₀; the locals; what gives them back; obs; the row's borrow; κ₅; dir; cache; macs; mem; κ₄; κ₃;
+      -- κ₂; κ₁]
       assigns ! (of-opd ! (load ! (from ! (fld ! refl (stop !))) (look-in ! 7 (sub ! 1 refl (whole !)))))
       (from ! (stop !)) (init ! 11 refl (tt, record { fits = room .0 })) $
       -- what `planned` asks is put together, with the directory kept
-      move ! (20 ∷ []) $ use1 W (Dir ⊛ Dir) (shr-slice-copy 𝓤 H A W (named 0) κ₄ u32 .twice d (slice-vals d)) $
+      move ! (20 ∷ []) $ use1 W (Dir ⊛ Dir) (shr-slice-copy 𝓤 H A W (named 0) κ₄ u32 .twice d (slice-vals d))
+      $
       split ! $
       nothing ! $ owned ! usize (Is usize) (uint-makes 𝓤 H A W w64) (length (r .now)) _ (refl, room .0) $ fjoin ! $
       move ! (1 ∷ 0 ∷ []) $ fjoin ! $ move ! (22 ∷ 0 ∷ []) $ fjoin ! $ move ! (22 ∷ 0 ∷ []) $ fjoin ! $
       move ! (22 ∷ 0 ∷ []) $ fjoin ! $
       owned ! P.the-row (Is P.the-row) (LL.makes P.the-type P′.the-plain 𝓤 H A) (p .now) _ was $ fjoin ! $
-      nothing ! $ move ! (23 ∷ 0 ∷ []) $ join ! $ move ! (23 ∷ 0 ∷ []) $ join ! $ move ! (23 ∷ 0 ∷ []) $ join ! $
+      nothing ! $ move ! (23 ∷ 0 ∷ []) $ join ! $ move ! (23 ∷ 0 ∷ []) $ join ! $ move ! (23 ∷ 0 ∷ []) $
+      join ! $
       move ! (23 ∷ 0 ∷ []) $ join ! $ join ! $ nothing ! $ move ! (1 ∷ 0 ∷ []) $ join ! $
       use1 W (raw (Planned 𝓤 H A mem₀ run .pre to-planned)) (id⊢ 𝓤 _) $
       -- [what is asked; dir; κ₀; the locals; what gives them back; obs; the row's borrow; κ₅]
@@ -409,29 +438,38 @@ module _ {M : Type 1} (𝓤 : URA M) (H : Heap 𝓤) (A : Atoms 𝓤) (W : Given
       (operand ! (look ! 12 refl) (operand ! (look ! 5 refl)
       (operand ! (look ! 6 refl) (operand ! (look ! 7 refl) (operand ! (look ! 8 refl)
       (operand ! (look ! 13 refl) (no-more !))))))) (λ w.
-      use1 W (later (some (λ (k : Plan). ((‵ (flft κ₁ q₁) ⊛ ‵ (flft κ₂ q₂) ⊛ ‵ (flft κ₃ q₃) ⊛ ‵ (flft κ₄ q₄)
+      use1 W (later (some (λ (k : Plan).
+      ((‵ (flft κ₁ q₁) ⊛ ‵ (flft κ₂ q₂) ⊛ ‵ (flft κ₃ q₃) ⊛ ‵ (flft κ₄ q₄)
       ⊛ ‵ ftrue) ⊛ ‵ (N.the-row .own k (w ∷ [])))
-      ⊛ raw (ensured 𝓤 H A planned.ended (planned.clauses 𝓤 H A mem₀ run) (κ₁, (κ₂, (κ₃, (κ₄, tt))))
+      ⊛ raw (ensured 𝓤 H A planned.ended (planned.clauses 𝓤 H A mem₀ run)
+      (κ₁, (κ₂, (κ₃, (κ₄, tt))))
       (p .now, (m₁, (m₂, (m₃, (d, (length (r .now), tt)))))) tt k)))) (id⊢ 𝓤 _) $ await ! tt $ pick ! (λ k.
       split ! $ move ! (1 ∷ []) $ use1 W (raw (fact 𝓤 (Made k))) (made-of k) $
-      heard ! (Made k) (λ made. split ! $ move ! (1 ∷ []) $ peeks ! N.the-row (Is N.the-row) (shows 𝓤 H A N.the-row) k
+      heard ! (Made k) (λ made. split ! $ move ! (1 ∷ []) $ peeks ! N.the-row (Is N.the-row)
+      (shows 𝓤 H A N.the-row) k
       (w ∷ []) (λ is.
       let parts = LL.owed N.the-type N′.the-laws k _ is in
       let isk : Is N.the-row k (planVal k ∷ []) = LL.owes N.the-type N′.the-laws k parts in
       regoal ! (λ (u : Val). lands C Λ (placed 𝓤 H (code.function .locals) bs) (place 7 []) u body.t-4
-      (atRet (placed 𝓤 H (code.function .locals) bs) Post)) (ap only (LL.tells N.the-type N′.the-laws k _ is)) refl $
-      land ! (from ! (stop !)) (init ! 11 refl (LL.lawful N.the-type N′.the-laws 𝓤 H A W .typed k _ isk .0)) $ drop ! $
+      (atRet (placed 𝓤 H (code.function .locals) bs) Post)) (ap only (LL.tells N.the-type N′.the-laws k _ is)) refl
+      $
+      land ! (from ! (stop !)) (init ! 11 refl (LL.lawful N.the-type N′.the-laws 𝓤 H A W .typed k _ isk .0)) $ drop
+      ! $
       -- [the tokens; dir; κ₀; the locals; what gives them back; obs; the row's borrow; κ₅]
       assigns ! (of-opd ! (lit ! tt)) (from ! (stop !)) (init ! 11 refl (tt, record { fits = lit< tt })) $
       move ! (19 ∷ 20 ∷ 21 ∷ []) $ opens-slice ! tt L.the-row (r .now) (r .ptr .0) (r .ptr .1) $
-      move ! (4 ∷ []) $ split ! $ move ! (1 ∷ []) $ split ! $ move ! (1 ∷ []) $ split ! $ move ! (1 ∷ []) $ split ! $
-      -- [κ₄; true; κ₃; κ₂; κ₁; the row; its open borrow; obs; auth; dir; κ₀; the locals; what gives them back]
-      keep ! (5 ∷ 9 ∷ 0 ∷ 11 ∷ 12 ∷ 13 ∷ 14 ∷ 15 ∷ 16 ∷ 17 ∷ 18 ∷ 19 ∷ 20 ∷ 21 ∷ 22 ∷ 23 ∷ 24 ∷ 25 ∷ 26 ∷ 6 ∷ 7 ∷ 8
+      move ! (4 ∷ []) $ split ! $ move ! (1 ∷ []) $ split ! $ move ! (1 ∷ []) $ split ! $ move ! (1 ∷ []) $
+      split ! $
+      -- [κ₄; true; κ₃; κ₂; κ₁; the row; its open borrow; obs; auth; dir; κ₀; the locals; what gives them
+      -- back]
+      keep ! (5 ∷ 9 ∷ 0 ∷ 11 ∷ 12 ∷ 13 ∷ 14 ∷ 15 ∷ 16 ∷ 17 ∷ 18 ∷ 19 ∷ 20 ∷ 21 ∷ 22 ∷ 23
+      ∷ 24 ∷ 25 ∷ 26 ∷ 6 ∷ 7 ∷ 8
       ∷ 10 ∷ 4 ∷ 3 ∷ 2 ∷ []) $
       first ! $ blocks ! $ loops ! 𝓣 (Nearer bs k isk made) (Nearer-wf bs k isk made) (At bs k isk made)
       (turns bs k isk made) (0, zero-le))))))))
 
-module _ {M : Type 1} (𝓤 : URA M) (H : Heap 𝓤) (A : Atoms 𝓤) (W : Given 𝓤 H A) (mem₀ : Memory → SProp 𝓤)
+module _ {M : Type 1} (𝓤 : URA M) (H : Heap 𝓤) (A : Atoms 𝓤) (W : Given 𝓤 H A) (mem₀ : Memory
+    → SProp 𝓤)
     (run : Routine → Fun 𝓤) (𝓣 : Tables 𝓤 H) where
   meets : Triple 𝓤 (𝓣 .C planned-def.name) (Planned 𝓤 H A mem₀ run)
       → Triple 𝓤 (𝓣 .C row-at-def.name) (RowAt 𝓤 H A mem₀ run)
@@ -440,7 +478,8 @@ module _ {M : Type 1} (𝓤 : URA M) (H : Heap 𝓤) (A : Atoms 𝓤) (W : Given
       let κs : Lfts 6 = y .0 .0 in
       let qs : Shares 6 = y .0 .1 in
       let a : Args face.signature κs = y .0 .3 in
-      via 𝓤 (onEntry 𝓤 H A face.signature κs qs a (y .0 .4)) (fst∗ 𝓤 (onEntry 𝓤 H A face.signature κs qs a (y .0 .4))
+      via 𝓤 (onEntry 𝓤 H A face.signature κs qs a (y .0 .4))
+      (fst∗ 𝓤 (onEntry 𝓤 H A face.signature κs qs a (y .0 .4))
       (emp 𝓤))
       (said 𝓤 H A face.signature κs qs (
         ptr-vals,
@@ -470,7 +509,8 @@ module _ {M : Type 1} (𝓤 : URA M) (H : Heap 𝓤) (A : Atoms 𝓤) (W : Given
       )
       a (λ us. WpFn 𝓤 H (𝓣 .C) (𝓣 .Λ) code.function (flat (typesAt (face.signature .params) κs) us)
       (tripleOf 𝓤 H A face.signature (face.spec 𝓤 H A mem₀ run) .post y)) (y .0 .4)
-      (λ are. walk 𝓤 H A W mem₀ run 𝓣 known-planned known-row (κs .0) (κs .1 .0) (κs .1 .1 .0) (κs .1 .1 .1 .0)
+      (λ are. walk 𝓤 H A W mem₀ run 𝓣 known-planned known-row (κs .0) (κs .1 .0) (κs .1 .1 .0)
+      (κs .1 .1 .1 .0)
       (κs .1 .1 .1 .1 .0) (κs .1 .1 .1 .1 .1 .0) (qs .0) (qs .1 .0) (qs .1 .1 .0) (qs .1 .1 .1 .0) (qs .1 .1 .1 .1 .0)
       (qs .1 .1 .1 .1 .1 .0)
       (a .0) (a .1 .0) (a .1 .1 .0) (a .1 .1 .1 .0) (a .1 .1 .1 .1 .0) (a .1 .1 .1 .1 .1 .0) (are .1 .0 .0 .1 .0)
@@ -480,9 +520,12 @@ pub hq-list-slots-spec : {M : Type 1} → statement M
 unfolding code.routine tablesOf
 hq-list-slots-spec 𝓤 H 𝓜 𝓖 𝓡 =
     entered 𝓤 H (tripleOf 𝓤 H (𝓖 .A) face.signature (face.spec 𝓤 H (𝓖 .A) (𝓜 .mem) (𝓡 .run)))
-    (tables 𝓤 H 𝓜 𝓡 code.env .C) (tables 𝓤 H 𝓜 𝓡 code.env .Λ) name code.function (code.unfolded 𝓤 H 𝓜 𝓡)
-    (meets 𝓤 H (𝓖 .A) (givenOf 𝓤 H 𝓜 𝓖) (𝓜 .mem) (𝓡 .run) (tablesOf 𝓤 H 𝓜 (tables 𝓤 H 𝓜 𝓡 code.env))
-    (cited 𝓤 H (Planned 𝓤 H (𝓖 .A) (𝓜 .mem) (𝓡 .run)) 𝓜 𝓡 code.env planned-def.name planned-def.routine
+    (tables 𝓤 H 𝓜 𝓡 code.env .C) (tables 𝓤 H 𝓜 𝓡 code.env .Λ) name code.function
+    (code.unfolded 𝓤 H 𝓜 𝓡)
+    (meets 𝓤 H (𝓖 .A) (givenOf 𝓤 H 𝓜 𝓖) (𝓜 .mem) (𝓡 .run)
+    (tablesOf 𝓤 H 𝓜 (tables 𝓤 H 𝓜 𝓡 code.env))
+    (cited 𝓤 H (Planned 𝓤 H (𝓖 .A) (𝓜 .mem) (𝓡 .run)) 𝓜 𝓡 code.env planned-def.name
+    planned-def.routine
     code.calls-board·listing·planned (planned-thm.met 𝓤 H 𝓜 𝓖 𝓡))
     (cited 𝓤 H (RowAt 𝓤 H (𝓖 .A) (𝓜 .mem) (𝓡 .run)) 𝓜 𝓡 code.env row-at-def.name row-at-def.routine
     code.calls-host·listing·row-at (row-at-thm.met 𝓤 H 𝓜 𝓖 𝓡)))

@@ -17,4 +17,5 @@ hq-run-spec 𝓤 H 𝓜 𝓖 𝓡 =
     entered 𝓤 H _ _ _ name code.function (code.unfolded 𝓤 H 𝓜 𝓡)
     (meets (λ n l x. Leaves (run n) l x []) 𝓤 H (𝓖 .A) (givenOf 𝓤 H 𝓜 𝓖)
     (tablesOf 𝓤 H 𝓜 (tables 𝓤 H 𝓜 𝓡 code.env)) core-def.name
-    (cited 𝓤 H _ 𝓜 𝓡 code.env core-def.name core-def.routine code.calls-host·running·run (core-thm.met 𝓤 H 𝓜 𝓖 𝓡)))
+    (cited 𝓤 H _ 𝓜 𝓡 code.env core-def.name core-def.routine code.calls-host·running·run
+    (core-thm.met 𝓤 H 𝓜 𝓖 𝓡)))

@@ -19,10 +19,9 @@ returns c =
     let a = first .before .before .before .before .args in
     let flaw : ℕ → ℕ = λ x. firstOf ((not (eqb x 0) || ltb 2 (a .p .special .mode), 105) ∷ []) in
     c .or-else2 .ensures ∙ ap₂ orElse (first .before .lent .ensures) (c .before .or-else .ensures
-    ∙ ap (λ (x : ℕ). orElse x (a .own)) (c .before .before .«record» .ensures ∙ ap flaw (first .zeroth .ensures)))
+    ∙ ap (λ (x : ℕ). orElse x (a .own)) (c .before .before .«record» .ensures
+    ∙ ap flaw (first .zeroth .ensures)))
 
 pub refusal-spec : {M : Type 1} → statement M
-refusal-spec =
-    tie.close
-    (tie.spec (λ c κs. search needs) (λ c κs. search needs) (λ c κs. search needs) (λ c κs. search needs)
-    (λ c κs. search needs) returns)
+refusal-spec = tie.close (tie.spec (λ c κs. search needs) (λ c κs. search needs) (λ c κs. search needs)
+    (λ c κs. search needs) (λ c κs. search needs) returns)

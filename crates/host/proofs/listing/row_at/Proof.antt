@@ -20,12 +20,5 @@ returns-2 c = let a = c .before .before .before .args in c .row-of2 .ensures
     ∙ ap (λ (d : ℕ). rowOf (entryOf d)) (sym (past-end (a .dir .now) (a .i) (omega (arith, c .before .if1 .left))))
 
 pub row-at-spec : {M : Type 1} → statement M
-row-at-spec =
-    tie.close
-    (tie.spec
-    (λ c. search needs)
-    (λ c. search needs)
-    (λ c κs. search needs)
-    returns
-    (λ c κs. search needs)
-    returns-2)
+row-at-spec = tie.close (tie.spec (λ c. search needs) (λ c. search needs) (λ c κs. search needs) returns
+    (λ c κs. search needs) returns-2)

@@ -32,8 +32,6 @@ returns-2 c =
     refl (c .before .none .ensures) (made .lose-all .ensures .left _ _ _)
 
 pub power-cut-spec : {M : Type 1} → statement M
-power-cut-spec =
-    tie.close
-    (tie.spec (λ c κs. search needs) (λ c κs. search needs) (λ c. search needs) returns lose-all-requires
-    (λ c κs. search needs) (λ c κs. search needs) (λ c κs. search needs) (λ c. search needs) (λ c. search needs)
-    returns-2)
+power-cut-spec = tie.close (tie.spec (λ c κs. search needs) (λ c κs. search needs) (λ c. search needs) returns
+    lose-all-requires (λ c κs. search needs) (λ c κs. search needs) (λ c κs. search needs) (λ c. search needs)
+    (λ c. search needs) returns-2)

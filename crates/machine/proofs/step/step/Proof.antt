@@ -109,8 +109,5 @@ returns c =
     (decided .decide .ensures) (accessed .access .ensures) (added .add .ensures) (c .before .finish .ensures)
 
 pub step-spec : {M : Type 1} → statement M
-step-spec =
-    tie.close
-    (tie.spec
-    (λ c κs. search needs) fetch-requires decide-requires access-requires add-requires finish-requires same-length
-    same-length-2 same-length-3 same-length-4 returns)
+step-spec = tie.close (tie.spec (λ c κs. search needs) fetch-requires decide-requires access-requires add-requires
+    finish-requires same-length same-length-2 same-length-3 same-length-4 returns)

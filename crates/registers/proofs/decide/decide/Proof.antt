@@ -41,8 +41,6 @@ returns-4 : tie.Need-returns-4
 returns-4 c = decides-something _ _ _ _ _ _ _ _ (c .before .if3 .left) (decoded (c .before .before)) (c .want .ensures)
 
 pub decide-spec : {M : Type 1} → statement M
-decide-spec =
-    tie.close
-    (tie.spec
-    (λ c κs. search needs) returns (λ c κs. search needs) returns-2 (λ c κs. search needs) (λ c κs. search needs)
-    (λ c κs. search needs) returns-3 (λ c κs. search needs) returns-4)
+decide-spec = tie.close (tie.spec (λ c κs. search needs) returns (λ c κs. search needs) returns-2
+    (λ c κs. search needs) (λ c κs. search needs) (λ c κs. search needs) returns-3 (λ c κs. search needs)
+    returns-4)

@@ -20,20 +20,14 @@ start m = m .before .before .before
 
 pub want-spec : {M : Type 1} → statement M
 unfolding tagNamed
-want-spec =
-    tie.close
-    (tie.spec
-    (λ c κs. search needs) (λ c κs. search needs) (λ c κs. search needs) (λ c κs. search needs) (λ c κs. search needs)
+want-spec = tie.close (tie.spec (λ c κs. search needs) (λ c κs. search needs) (λ c κs. search needs)
     (λ c κs. search needs) (λ c κs. search needs) (λ c κs. search needs) (λ c κs. search needs)
-    (λ c. let m = c .before .before in granted-at _ _ _ _ (reads m) (start m .pre) _ 10 (c .before .match .keys1)
-    (c .word .ensures))
-    (λ c. let m = c .before .before in granted-at _ _ _ _ (reads m) (start m .pre) _ 11 (c .before .match .keys2)
-    (c .word2 .ensures))
+    (λ c κs. search needs) (λ c κs. search needs) (λ c. let m = c .before .before in
+    granted-at _ _ _ _ (reads m) (start m .pre) _ 10 (c .before .match .keys1) (c .word .ensures)) (λ c. let m =
+    c .before .before in granted-at _ _ _ _ (reads m) (start m .pre) _ 11 (c .before .match .keys2) (c .word2 .ensures))
     (λ c. let m = c .before .before in granted-at _ _ _ _ (reads m) (start m .pre) _ 32 (c .before .match .keys3)
-    (c .new-key .ensures))
-    (λ c. let m = c .before .before in granted-at _ _ _ _ (reads m) (start m .pre) _ 41 (c .before .match .keys4)
-    (c .word3 .ensures))
-    (λ c. let m = c .before .before in granted-at _ _ _ _ (reads m) (start m .pre) _ 42 (c .before .match .keys5)
-    (c .word4 .ensures))
-    (λ c. let m = c .before .before in granted-none _ _ _ _ (reads m) (start m .pre) _ (c .before .match .rest)
+    (c .new-key .ensures)) (λ c. let m = c .before .before in granted-at _ _ _ _ (reads m) (start m .pre) _ 41
+    (c .before .match .keys4) (c .word3 .ensures)) (λ c. let m = c .before .before in
+    granted-at _ _ _ _ (reads m) (start m .pre) _ 42 (c .before .match .keys5) (c .word4 .ensures)) (λ c. let m =
+    c .before .before in granted-none _ _ _ _ (reads m) (start m .pre) _ (c .before .match .rest)
     (c .nothing .ensures)))

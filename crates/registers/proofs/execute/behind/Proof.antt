@@ -15,7 +15,5 @@ unfolding behind
 returns-2 c = if-left _ _ _ _ (sym (c .before .before .both .ensures) ∙ c .before .if1 .left) (c .plus2 .ensures)
 
 pub behind-spec : {M : Type 1} → statement M
-behind-spec =
-    tie.close
-    (tie.spec
-    (λ c κs. search needs) (λ c. search needs) (λ c κs. search needs) returns (λ c κs. search needs) returns-2)
+behind-spec = tie.close (tie.spec (λ c κs. search needs) (λ c. search needs) (λ c κs. search needs) returns
+    (λ c κs. search needs) returns-2)

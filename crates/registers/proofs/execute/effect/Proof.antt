@@ -20,18 +20,14 @@ unfolding drkOf
 returns-3 c = effect-at _ _ _ (reads (c .before .before)) 32 (c .before .match .keys3) (c .drk-set .ensures) refl refl
 
 pub effect-spec : {M : Type 1} → statement M
-effect-spec =
-    tie.close
-    (tie.spec
-    (λ c κs. search needs) (λ c κs. search needs) (λ c κs. search needs) (λ c κs. search needs) (λ c κs. search needs)
-    (λ c κs. search needs) (λ c κs. search needs) (λ c κs. search needs) (λ c κs. search needs) (λ c κs. search needs)
-    (λ c κs. search needs)
+effect-spec = tie.close (tie.spec (λ c κs. search needs) (λ c κs. search needs) (λ c κs. search needs)
+    (λ c κs. search needs) (λ c κs. search needs) (λ c κs. search needs) (λ c κs. search needs)
+    (λ c κs. search needs) (λ c κs. search needs) (λ c κs. search needs) (λ c κs. search needs)
     (λ c. effect-at _ _ _ (reads (c .before .before)) 13 (c .before .match .keys1) (c .epc-set .ensures) refl refl)
     (λ c. effect-at _ _ _ (reads (c .before .before)) 15 (c .before .match .keys2) (c .ids-set .ensures) refl refl)
-    returns-3
-    (λ c. effect-at _ _ _ (reads (c .before .before)) 33 (c .before .match .keys4) (c .drk-lock .ensures) refl refl)
-    (λ c. effect-at _ _ _ (reads (c .before .before)) 34 (c .before .match .keys5) (c .drk-derive .ensures) refl refl)
-    (λ c. effect-at _ _ _ (reads (c .before .before)) 35 (c .before .match .keys6) (c .srh-get .ensures) refl refl)
-    (λ c. effect-at _ _ _ (reads (c .before .before)) 36 (c .before .match .keys7) (c .srh-set .ensures) refl refl)
-    (λ c. effect-at _ _ _ (reads (c .before .before)) 37 (c .before .match .keys8) (c .gr-get .ensures) refl refl)
-    (λ c. effect-none _ _ _ (reads (c .before)) (c .match .rest .0 .0 .0 .0 .0 .1) (c .match .rest)))
+    returns-3 (λ c. effect-at _ _ _ (reads (c .before .before)) 33 (c .before .match .keys4) (c .drk-lock .ensures)
+    refl refl) (λ c. effect-at _ _ _ (reads (c .before .before)) 34 (c .before .match .keys5) (c .drk-derive .ensures)
+    refl refl) (λ c. effect-at _ _ _ (reads (c .before .before)) 35 (c .before .match .keys6) (c .srh-get .ensures)
+    refl refl) (λ c. effect-at _ _ _ (reads (c .before .before)) 36 (c .before .match .keys7) (c .srh-set .ensures)
+    refl refl) (λ c. effect-at _ _ _ (reads (c .before .before)) 37 (c .before .match .keys8) (c .gr-get .ensures) refl
+    refl) (λ c. effect-none _ _ _ (reads (c .before)) (c .match .rest .0 .0 .0 .0 .0 .1) (c .match .rest)))

@@ -3,7 +3,8 @@ use mathlib.Core.Path.{_≡_, sym, ap₂, _∙_}
 use mathlib.Core.Bool.{false}
 use Rattle.instructions.specs.Record.{withReg}
 use Rattle.instructions.specs.Operations.{hasValue}
-use Rattle.registers.proofs.Executing.{executed-value, nextKey-value, executed-low, nextKey-low, executed-other}
+use Rattle.registers.proofs.Executing.{executed-value, nextKey-value, executed-low, nextKey-low}
+use Rattle.registers.proofs.Executing.{executed-other}
 use borrow.Author.Needs.{needs}
 use Rattle.registers.proofs.execute.execute.Statement.{statement}
 use Rattle.registers.proofs.execute.execute.Tie as tie
@@ -44,9 +45,6 @@ returns-3 c =
     }
 
 pub execute-spec : {M : Type 1} → statement M
-execute-spec =
-    tie.close
-    (tie.spec
-    (λ c κs. search needs) (λ c κs. search needs) (λ c κs. search needs) (λ c κs. search needs) (λ c κs. search needs)
-    returns (λ c κs. search needs) (λ c κs. search needs) returns-2 (λ c κs. search needs) (λ c κs. search needs)
-    returns-3)
+execute-spec = tie.close (tie.spec (λ c κs. search needs) (λ c κs. search needs) (λ c κs. search needs)
+    (λ c κs. search needs) (λ c κs. search needs) returns (λ c κs. search needs) (λ c κs. search needs)
+    returns-2 (λ c κs. search needs) (λ c κs. search needs) returns-3)

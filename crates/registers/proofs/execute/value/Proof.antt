@@ -21,14 +21,11 @@ returns-6 c =
     (c .plus2 .ensures ∙ (rw (c .before .imm .ensures)))
 
 pub value-spec : {M : Type 1} → statement M
-value-spec =
-    tie.close
-    (tie.spec
-    (λ c κs. search needs) (λ c κs. search needs) (λ c κs. search needs) (λ c κs. search needs) (λ c κs. search needs)
+value-spec = tie.close (tie.spec (λ c κs. search needs) (λ c κs. search needs) (λ c κs. search needs)
     (λ c κs. search needs) (λ c κs. search needs) (λ c κs. search needs) (λ c κs. search needs)
-    (λ c. value-at _ _ (reads (c .before .before)) _ 1 _ (c .before .match .keys1) (c .plus .ensures))
-    (λ c. value-at _ _ (reads (c .before .before)) _ 2 _ (c .before .match .keys2) (c .minus .ensures))
-    (λ c. value-at _ _ (reads (c .before)) _ 3 _ (c .match .keys3) refl)
+    (λ c κs. search needs) (λ c κs. search needs) (λ c. value-at _ _ (reads (c .before .before)) _ 1 _
+    (c .before .match .keys1) (c .plus .ensures)) (λ c. value-at _ _ (reads (c .before .before)) _ 2 _
+    (c .before .match .keys2) (c .minus .ensures)) (λ c. value-at _ _ (reads (c .before)) _ 3 _ (c .match .keys3) refl)
     (λ c. value-at _ _ (reads (c .before)) _ 4 _ (c .match .keys4) refl)
     (λ c. value-at _ _ (reads (c .before)) _ 5 _ (c .match .keys5) refl) returns-6
     (λ c. value-at _ _ (reads (c .before .before)) _ 7 _ (c .before .match .keys7) (c .leading .ensures))

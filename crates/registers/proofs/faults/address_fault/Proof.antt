@@ -33,8 +33,5 @@ returns-3 c =
     (if-left _ _ _ _ (sym (c .before .both2 .ensures) ∙ c .if2 .left) refl))
 
 pub address-fault-spec : {M : Type 1} → statement M
-address-fault-spec =
-    tie.close
-    (tie.spec
-    (λ c κs. search needs) (λ c κs. search needs) returns (λ c. search needs) (λ c κs. search needs) returns-2
-    returns-3)
+address-fault-spec = tie.close (tie.spec (λ c κs. search needs) (λ c κs. search needs) returns (λ c. search needs)
+    (λ c κs. search needs) returns-2 returns-3)

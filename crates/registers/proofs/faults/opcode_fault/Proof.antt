@@ -33,8 +33,5 @@ returns-3 c =
     (if-left _ _ _ _ (sym (c .before .before .both .ensures) ∙ c .before .if2 .left) (c .thread-fault .ensures)))
 
 pub opcode-fault-spec : {M : Type 1} → statement M
-opcode-fault-spec =
-    tie.close
-    (tie.spec
-    (λ c κs. search needs) (λ c. search needs) returns (λ c κs. search needs) returns-2 (λ c κs. search needs)
-    returns-3)
+opcode-fault-spec = tie.close (tie.spec (λ c κs. search needs) (λ c. search needs) returns (λ c κs. search needs)
+    returns-2 (λ c κs. search needs) returns-3)

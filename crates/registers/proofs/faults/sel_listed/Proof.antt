@@ -39,7 +39,5 @@ returns-4 c =
     rw (← op, ne-eqb _ 32 (at-if1 .if1 .left), ne-eqb _ 37 (c .before .if2 .left), ne-eqb _ 38 (c .if3 .left))
 
 pub sel-listed-spec : {M : Type 1} → statement M
-sel-listed-spec =
-    tie.close
-    (tie.spec
-    (λ c κs. search needs) (λ c κs. search needs) returns (λ c κs. search needs) returns-2 returns-3 returns-4)
+sel-listed-spec = tie.close (tie.spec (λ c κs. search needs) (λ c κs. search needs) returns (λ c κs. search needs)
+    returns-2 returns-3 returns-4)

@@ -12,7 +12,8 @@ returns c = no-thread-fault _ _ _ (c .before .pre) (c .if1 .taken)
 
 returns-2 : tie.Need-returns-2
 unfolding threadFaults
-returns-2 c = rw (← c .before .before .before .pre) (if-taken _ _ _ (sym (c .before .both .ensures) ∙ c .if2 .taken))
+returns-2 c = rw (← c .before .before .before .pre)
+    (if-taken _ _ _ (sym (c .before .both .ensures) ∙ c .if2 .taken))
 
 returns-3 : tie.Need-returns-3
 unfolding threadFaults
@@ -43,8 +44,5 @@ returns-5 c =
     (if-left _ _ _ _ (sym (c .before .either .ensures) ∙ c .if4 .left) refl)))
 
 pub thread-fault-spec : {M : Type 1} → statement M
-thread-fault-spec =
-    tie.close
-    (tie.spec
-    returns (λ c κs. search needs) returns-2 (λ c κs. search needs) returns-3 (λ c κs. search needs)
-    (λ c κs. search needs) returns-4 returns-5)
+thread-fault-spec = tie.close (tie.spec returns (λ c κs. search needs) returns-2 (λ c κs. search needs) returns-3
+    (λ c κs. search needs) (λ c κs. search needs) returns-4 returns-5)

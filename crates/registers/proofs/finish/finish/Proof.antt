@@ -32,8 +32,5 @@ returns-4 c =
     (λ e. (at-if3 .if3 .left) (at-if3 .before .opcode .ensures .0 ∙ e)) (c .execute .ensures)
 
 pub finish-spec : {M : Type 1} → statement M
-finish-spec =
-    tie.close
-    (tie.spec
-    (λ c κs. search needs) returns (λ c κs. search needs) returns-2 (λ c κs. search needs) (λ c κs. search needs)
-    returns-3 (λ c κs. search needs) returns-4)
+finish-spec = tie.close (tie.spec (λ c κs. search needs) returns (λ c κs. search needs) returns-2
+    (λ c κs. search needs) (λ c κs. search needs) returns-3 (λ c κs. search needs) returns-4)

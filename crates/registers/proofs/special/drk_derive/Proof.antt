@@ -11,11 +11,12 @@ unfolding derived aesCipher
 returns c =
     let at-word = c .before .before in
     let mac = at-word .before .before .derive .ensures in
-    record { record′ = λ regs. rw (← mac, ← (at-word .word-at .ensures), ← (c .word-at2 .ensures)); key′ = refl }
+    record {
+      record′ = λ regs. rw (← mac, ← (at-word .word-at .ensures), ← (c .word-at2 .ensures));
+      key′ =
+          refl;
+    }
 
 pub drk-derive-spec : {M : Type 1} → statement M
-drk-derive-spec =
-    tie.close
-    (tie.spec
-    (λ c κs. search needs) (λ c. search needs) (λ c κs. search needs) (λ c. search needs) (λ c κs. search needs)
-    returns)
+drk-derive-spec = tie.close (tie.spec (λ c κs. search needs) (λ c. search needs) (λ c κs. search needs)
+    (λ c. search needs) (λ c κs. search needs) returns)

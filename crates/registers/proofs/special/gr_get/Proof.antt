@@ -13,7 +13,8 @@ returns : tie.Need-returns
 returns c = rw (← (c .before .sel .ensures), c .if1 .taken) (record { record′ = λ regs. refl; key′ = refl })
 
 returns-2 : tie.Need-returns-2
-returns-2 c = rw (← (c .before .before .sel .ensures), c .if2 .taken) (record { record′ = λ regs. refl; key′ = refl })
+returns-2 c = rw (← (c .before .before .sel .ensures), c .if2 .taken)
+    (record { record′ = λ regs. refl; key′ = refl })
 
 returns-3 : tie.Need-returns-3
 returns-3 c = rw (← (c .before .before .before .sel .ensures), c .if3 .taken)

@@ -20,7 +20,5 @@ returns-2 c =
     record { record′ = entered-active _ _ _ _ _ _ _ active (at-hash .hash .ensures) hidden-by; key′ = refl }
 
 pub enter-spec : {M : Type 1} → statement M
-enter-spec =
-    tie.close
-    (tie.spec
-    returns (λ c κs. search needs) (λ c κs. search needs) (λ c κs. search needs) returns-2)
+enter-spec = tie.close (tie.spec returns (λ c κs. search needs) (λ c κs. search needs) (λ c κs. search needs)
+    returns-2)

@@ -27,8 +27,5 @@ returns-2 c =
     (at-hide .before .before .before .before .pre) (c .before .before .if1 .left) refl (c .enter .ensures)
 
 pub resume-spec : {M : Type 1} → statement M
-resume-spec =
-    tie.close
-    (tie.spec
-    (λ c κs. search needs) (λ c κs. search needs) (λ c. search needs) (λ c. search needs) (λ c κs. search needs)
-    (λ c κs. search needs) returns (λ c κs. search needs) returns-2)
+resume-spec = tie.close (tie.spec (λ c κs. search needs) (λ c κs. search needs) (λ c. search needs)
+    (λ c. search needs) (λ c κs. search needs) (λ c κs. search needs) returns (λ c κs. search needs) returns-2)

@@ -19,8 +19,6 @@ returns : tie.Need-returns
 returns c = four-laid (c .args .b .now) (c .args .k) (c .args .x)
 
 pub put-word-spec : {M : Type 1} → statement M
-put-word-spec =
-    tie.close
-    (tie.spec (λ c. search needs) (λ c. search needs) (λ c. search needs) (λ c. search needs) slice-write-b-2
-    (λ c. search needs) (λ c. search needs) slice-write-b-3 (λ c. search needs) (λ c. search needs) slice-write-b-4
-    (λ c. search needs) returns)
+put-word-spec = tie.close (tie.spec (λ c. search needs) (λ c. search needs) (λ c. search needs) (λ c. search needs)
+    slice-write-b-2 (λ c. search needs) (λ c. search needs) slice-write-b-3 (λ c. search needs) (λ c. search needs)
+    slice-write-b-4 (λ c. search needs) returns)

@@ -16,7 +16,6 @@ returns c =
     (first .put-word .ensures) (second .put-word2 .ensures) (third .put-word3 .ensures) (fourth .put-word4 .ensures)
 
 pub store-spec : {M : Type 1} → statement M
-store-spec =
-    tie.close
-    (tie.spec (λ c κs. search needs) (λ c. search needs) (λ c κs. search needs) (λ c. search needs)
-    (λ c κs. search needs) (λ c. search needs) (λ c κs. search needs) (λ c. search needs) returns)
+store-spec = tie.close (tie.spec (λ c κs. search needs) (λ c. search needs) (λ c κs. search needs)
+    (λ c. search needs) (λ c κs. search needs) (λ c. search needs) (λ c κs. search needs) (λ c. search needs)
+    returns)

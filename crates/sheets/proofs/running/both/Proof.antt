@@ -57,8 +57,5 @@ returns c =
     )
 
 pub both-spec : {M : Type 1} → statement M
-both-spec =
-    tie.close
-    (tie.spec (λ c κs. search needs) filled-in-requires (λ c κs. search needs)
-    (λ c κs. search needs) filled-in-requires-2
-    same-length same-length-2 same-length-3 same-length-4 returns)
+both-spec = tie.close (tie.spec (λ c κs. search needs) filled-in-requires (λ c κs. search needs)
+    (λ c κs. search needs) filled-in-requires-2 same-length same-length-2 same-length-3 same-length-4 returns)

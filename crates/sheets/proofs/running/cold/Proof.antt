@@ -12,7 +12,5 @@ returns c =
     cold-gives _ _ _ _ _ _ (cut .power-cut .ensures) (ran .run .ensures)
 
 pub cold-spec : {M : Type 1} → statement M
-cold-spec =
-    tie.close
-    (tie.spec (λ c κs. search needs) (λ c κs. search needs) (λ c. search needs) (λ c. search needs) (λ c. search needs)
-    (λ c. search needs) returns)
+cold-spec = tie.close (tie.spec (λ c κs. search needs) (λ c κs. search needs) (λ c. search needs)
+    (λ c. search needs) (λ c. search needs) (λ c. search needs) returns)

@@ -19,7 +19,5 @@ returns c =
     (says (ran .run .ensures) true _ (c .filled-in .ensures), ran .run .ensures .left)
 
 pub once-more-spec : {M : Type 1} → statement M
-once-more-spec =
-    tie.close
-    (tie.spec (λ c κs. search needs) filled-in-requires (λ c. search needs) (λ c. search needs) (λ c. search needs)
-    (λ c. search needs) returns)
+once-more-spec = tie.close (tie.spec (λ c κs. search needs) filled-in-requires (λ c. search needs)
+    (λ c. search needs) (λ c. search needs) (λ c. search needs) returns)

@@ -46,16 +46,5 @@ returns : tie.Need-returns Inv-loop μ-loop
 returns c = let turn = c .before .loop in let full : turn .i ≡ 64 = omega arith in rw full at (turn .inv .1)
 
 pub numbers-spec : {M : Type 1} → statement M
-numbers-spec =
-    tie.close
-    (tie.spec
-    Inv-loop
-    μ-loop
-    loop-holds
-    number-at-requires
-    mul-r
-    array-write-r
-    add-i
-    loop-less
-    loop-again
-    returns)
+numbers-spec = tie.close (tie.spec Inv-loop μ-loop loop-holds number-at-requires mul-r array-write-r add-i loop-less
+    loop-again returns)
