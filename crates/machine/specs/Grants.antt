@@ -1,7 +1,7 @@
 -- What a memory phase promises: what the cached memory makes of a wish, its counts being the sums over the notes.
 use Prim.Native.Nat.{ℕ, _+_, _*_, _/_, _%_, _<_, _≤_}
 use mathlib.Core.Path.{_≡_}
-use mathlib.Core.Bool.{Bool}
+use mathlib.Core.Bool.{Bool, true}
 use mathlib.Core.List.{List}
 use Rattle.lists.specs.Parts.{partAt, putAt}
 use Rattle.lists.specs.Words.{little, littleBytes}
