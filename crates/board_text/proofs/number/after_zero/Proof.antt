@@ -9,8 +9,10 @@ use Rattle.board_text.proofs.number.after_zero.Tie as tie
 
 returns : tie.Need-returns
 unfolding zeroOf
-returns c = λ e. simp (eq-eqb _ _ (c .before .before .if1 .taken)) (c .digits .ensures e
-    ∙ ap (valueOf 16) (tail-is 2 (c .before .before .before .before .before .args .word .now)))
+returns c =
+    let at-start = c .before .before .before .before .before in
+    λ e. simp (eq-eqb _ _ (c .before .before .if1 .taken)) (c .digits .ensures e
+    ∙ ap (valueOf 16) (tail-is 2 (at-start .args .word .now)))
 
 returns-2 : tie.Need-returns-2
 unfolding zeroOf

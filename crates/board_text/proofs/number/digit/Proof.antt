@@ -52,31 +52,33 @@ returns-5 c = (
 
 returns-6 : tie.Need-returns-6
 unfolding digitOf
-returns-6 c = (
-  simp (
-    le-ltb _ _ (c .before .before .before .before .before .if1 .left),
-    lt-leb _ _ (c .before .before .before .before .if2 .left),
-    le-ltb _ _ (c .before .before .before .if3 .left),
-    lt-leb _ _ (c .before .before .if4 .left),
-    le-ltb _ _ (c .before .if5 .left),
-    le-leb _ _ (c .if6 .taken),
-  ),
-  omega arith,
-)
+returns-6 c =
+    let at-if1 = c .before .before .before .before .before in (
+      simp (
+        le-ltb _ _ (at-if1 .if1 .left),
+        lt-leb _ _ (c .before .before .before .before .if2 .left),
+        le-ltb _ _ (c .before .before .before .if3 .left),
+        lt-leb _ _ (c .before .before .if4 .left),
+        le-ltb _ _ (c .before .if5 .left),
+        le-leb _ _ (c .if6 .taken),
+      ),
+      omega arith,
+    )
 
 returns-7 : tie.Need-returns-7
 unfolding digitOf
-returns-7 c = (
-  simp (
-    le-ltb _ _ (c .before .before .before .before .before .if1 .left),
-    lt-leb _ _ (c .before .before .before .before .if2 .left),
-    le-ltb _ _ (c .before .before .before .if3 .left),
-    lt-leb _ _ (c .before .before .if4 .left),
-    le-ltb _ _ (c .before .if5 .left),
-    lt-leb _ _ (c .if6 .left),
-  ),
-  omega arith,
-)
+returns-7 c =
+    let at-if1 = c .before .before .before .before .before in (
+      simp (
+        le-ltb _ _ (at-if1 .if1 .left),
+        lt-leb _ _ (c .before .before .before .before .if2 .left),
+        le-ltb _ _ (c .before .before .before .if3 .left),
+        lt-leb _ _ (c .before .before .if4 .left),
+        le-ltb _ _ (c .before .if5 .left),
+        lt-leb _ _ (c .if6 .left),
+      ),
+      omega arith,
+    )
 
 pub digit-spec : {M : Type 1} → statement M
 digit-spec = tie.close (tie.spec returns (λ c. search needs) returns-2 returns-3 (λ c. search needs)

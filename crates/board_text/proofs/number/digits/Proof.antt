@@ -20,46 +20,45 @@ loop-holds : tie.Need-loop-holds Inv-loop μ-loop
 loop-holds c = (omega arith, refl)
 
 mul-value : tie.Need-mul-value Inv-loop μ-loop
-mul-value c = record {
-  fits =
-      omega (
+mul-value c =
+    let at-loop = c .before .before .before .before .before in
+    let at-start = at-loop .before .before .before in
+    record {
+      fits = omega (
         arith,
-        room (c .before .before .before .before .before .before .before .before .args .base)
-            (18446744073709551615 - c .before .before .digit .result)
-            (c .before .before .before .before .before .loop .value)
-            (omega arith) (c .if3 .left),
+        room (at-start .args .base) (18446744073709551615 - c .before .before .digit .result)
+            (at-loop .loop .value) (omega arith) (c .if3 .left),
       );
-}
+    }
 
 add-value : tie.Need-add-value Inv-loop μ-loop
-add-value c = record {
-  fits =
-      omega (
+add-value c =
+    let at-loop = c .before .before .before .before .before in
+    let at-start = at-loop .before .before .before in
+    record {
+      fits = omega (
         arith,
-        room (c .before .before .before .before .before .before .before .before .args .base)
-            (18446744073709551615 - c .before .before .digit .result)
-            (c .before .before .before .before .before .loop .value)
-            (omega arith) (c .if3 .left),
+        room (at-start .args .base) (18446744073709551615 - c .before .before .digit .result)
+            (at-loop .loop .value) (omega arith) (c .if3 .left),
       );
-}
+    }
 
 loop-again : tie.Need-loop-again Inv-loop μ-loop
-loop-again c = (
-  omega arith,
-  rw (c .before .before .digit .ensures .0)
-      (c .before .before .before .before .before .loop .inv .1
-      ∙ value-more (c .before .before .before .before .before .before .before .before .args .base)
-      (c .before .before .before .before .before .loop .value)
-      (c .before .before .before .before .before .before .before .before .args .text .now)
-      (c .before .before .before .before .before .loop .i) (omega arith)),
-)
+loop-again c =
+    let at-loop = c .before .before .before .before .before in
+    let at-start = at-loop .before .before .before in (
+      omega arith,
+      rw (c .before .before .digit .ensures .0) (at-loop .loop .inv .1 ∙ value-more (at-start .args .base)
+          (at-loop .loop .value) (at-start .args .text .now) (at-loop .loop .i) (omega arith)),
+    )
 
 returns-4 : tie.Need-returns-4 Inv-loop μ-loop
 unfolding valueOf
-returns-4 c = λ e. c .right .ensures .1
-    ∙ sym (c .before .before .loop .inv .1 ∙ value-done (c .before .before .before .before .before .args .base)
-    (c .before .before .loop .value) (c .before .before .before .before .before .args .text .now)
-    (c .before .before .loop .i) (omega arith))
+returns-4 c =
+    let at-start = c .before .before .before .before .before in
+    λ e. c .right .ensures .1
+    ∙ sym (c .before .before .loop .inv .1 ∙ value-done (at-start .args .base) (c .before .before .loop .value)
+    (at-start .args .text .now) (c .before .before .loop .i) (omega arith))
 
 pub digits-spec : {M : Type 1} → statement M
 digits-spec = tie.close (tie.spec Inv-loop μ-loop (λ c κs. search needs) (λ c. search needs) loop-holds

@@ -15,6 +15,13 @@ Inv-loop text mem₀ macs₀ cache₀ dir₀ q₀ line₀ at₀ mem macs cache d
 abbrev μ-loop : tie.MeasureT-loop
 μ-loop text mem₀ macs₀ cache₀ dir₀ q₀ line₀ at₀ mem macs cache dir q line at = length text + 1 - at
 
+-- from one place of the code back to another
+abbrev back-to-behind : tie.After-slice-known8 Inv-loop μ-loop → tie.After-behind Inv-loop μ-loop
+back-to-behind c = c .before .before .before .before .before .before .before .before
+
+abbrev back-to-read : tie.After-behind Inv-loop μ-loop → tie.After-read Inv-loop μ-loop
+back-to-read c = c .before .before .before .before .before .before .before .before .before
+
 sub-end : tie.Need-sub-end Inv-loop μ-loop
 sub-end c = omega (
   arith,
@@ -44,41 +51,23 @@ part-announce-end c = omega (
 )
 
 loop-less : tie.Need-loop-less Inv-loop μ-loop
-loop-less c = omega (
-  arith,
-  c .before .before .before .before .before .before .before .before .before .before .before .before .before .before
-      .before .before .before .read .ensures .0
-      (c .before .before .before .before .before .before .before .before .before .before .before .before .before .before
-      .before .before .before .before .loop-test .taken),
-  c .before .before .before .before .before .before .before .before .before .before .before .before .before .before
-      .before .before .before .read .ensures .1,
-)
+loop-less c =
+    let at-read = back-to-read (back-to-behind c) in
+    omega (arith, at-read .read .ensures .0 (at-read .before .loop-test .taken), at-read .read .ensures .1)
 
 loop-again : tie.Need-loop-again Inv-loop μ-loop
-loop-again c = (
-  omega (
-    arith,
-    c .before .before .before .before .before .before .before .before .before .before .before .before .before .before
-        .before .before .before .read .ensures .0
-        (c .before .before .before .before .before .before .before .before .before .before .before .before .before
-        .before
-        .before .before .before .before .loop-test .taken),
-    c .before .before .before .before .before .before .before .before .before .before .before .before .before .before
-        .before .before .before .read .ensures .1,
-  ),
-  c .before .before .before .before .before .before .before .before .behind .kept .1 .1 .0
-      ∙ c .before .before .before .before .before .before .before .before .before .before .before .before .before
-      .before .before .before .before .before .before .loop .inv .1,
-  c .before .before .before .before .before .before .before .before .behind .kept .1 .1 .1 .0
-      ∙ c .before .before .before .before .before .before .before .before .before .before .before .before .before
-      .before .before .before .before .before .before .loop .inv .2,
-  c .before .before .before .before .before .before .before .before .behind .kept .1 .1 .1 .1 .0
-      ∙ c .before .before .before .before .before .before .before .before .before .before .before .before .before
-      .before .before .before .before .before .before .loop .inv .3,
-  c .before .before .before .before .before .before .before .before .behind .kept .1 .1 .1 .1 .1 .0
-      ∙ c .before .before .before .before .before .before .before .before .before .before .before .before .before
-      .before .before .before .before .before .before .loop .inv .4,
-)
+loop-again c =
+    let at-behind = back-to-behind c in
+    let at-read = back-to-read at-behind in (
+      omega (arith, at-read .read .ensures .0 (at-read .before .loop-test .taken), at-read .read .ensures .1),
+      at-behind .behind .kept .1 .1 .0 ∙ at-read .before .before .loop .inv .1,
+      at-behind .behind .kept .1 .1 .1 .0
+          ∙ at-read .before .before .loop .inv .2,
+      at-behind .behind .kept .1 .1 .1 .1 .0
+          ∙ at-read .before .before .loop .inv .3,
+      at-behind .behind .kept .1 .1 .1 .1 .1 .0
+          ∙ at-read .before .before .loop .inv .4,
+    )
 
 pub session-spec : {M : Type 1} → statement M
 session-spec = tie.close (tie.spec Inv-loop μ-loop (λ c. search needs) (λ c κs. search needs) sub-end
