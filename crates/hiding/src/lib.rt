@@ -8,7 +8,8 @@ ghost use Rattle.lists.specs.Words.{wordsBytes, xoredBehind};
 ghost use Rattle.sealing.specs.Lines.{drkOf, macOf};
 ghost use Rattle.sealing.specs.Stream.{counted, stream};
 
-// The hash of R1 to R31: the MAC of byte 4 and the registers, each eight bytes high first.
+// The hash of R1 to R31: the MAC of byte 4 and the registers, each eight bytes high first. Not by `sealing::mac_of`: a
+// smaller function would be inlined into what suspends, which would then leave the step.
 pub fn hash(hi: u64, lo: u64, r: [u64; 32]) -> [u8; 16]
     ensures { λ h. ⌜ h ≡ macOf (drkOf hi lo) (4 ∷ wordsBytes 8 (drop 1 r)) ⌝ }
 {
@@ -20,7 +21,7 @@ pub fn hash(hi: u64, lo: u64, r: [u64; 32]) -> [u8; 16]
         texts::put(&word, &mut m, i * 8 - 7);
         i += 1;
     }
-    sealing::mac_of(hi, lo, &m)
+    cmac::sign(&aes::expand(&texts::pair(hi, lo)), &m)
 }
 
 // The hash with j xored into its last byte.

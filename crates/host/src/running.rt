@@ -1,6 +1,7 @@
 // Run and interrupt.
 use crate::answer;
 use crate::answer::Answer;
+use crate::answer::Report;
 use cache::slots;
 use registers::record::Processor;
 use registers::suspend;
@@ -21,12 +22,24 @@ pub fn run(
     ensures { λ a. ⌜ Leaves (run n) (before p mem macs cache dir) (a .report) []
         (after (a .processor) mem macs cache dir) ⌝ }
 {
+    let q = p.special;
+    let mut r = p.r;
     let own = entry::call::steps(n);
     let no = answer::refusal(p, mem.len(), macs.len(), cache.len(), dir, own);
     if no != 0 {
-        return answer::refused(p, no);
+        return answer::refused(Processor { r, special: q }, no);
     }
-    machine::run::run(p, mem, macs, cache, dir, n)
+    let x = machine::run::run(&mut r, q, mem, macs, cache, dir, n);
+    let s = x.special;
+    let k = x.counts;
+    Answer {
+        processor: Processor { r, special: s },
+        report: Report {
+            answer: x.answer,
+            steps: x.steps,
+            counts: k,
+        },
+    }
 }
 
 // An interrupt: an active thread is suspended, and the machine goes on at its handler.

@@ -1,10 +1,7 @@
 // Run: at most n instructions, up to the first that faults.
-use crate::answer::Answer;
-use crate::answer::Report;
 use crate::step;
 use cache::slots;
 use cache::slots::Counts;
-use registers::record::Processor;
 use registers::record::Special;
 ghost use mathlib.Core.Path.{_≡_};
 ghost use Prim.Native.Nat.{_≤_};
@@ -12,8 +9,7 @@ ghost use lib.ListN.{length};
 ghost use Rattle.instructions.specs.Board.{opcodeTable};
 ghost use Rattle.cache.specs.Lent.{lent, countsIn, Fit};
 ghost use Rattle.machine.specs.Steps.{machineOf};
-ghost use Rattle.machine.specs.Runs.{Runs, RunGives};
-ghost use Rattle.machine.specs.Lent.{machineIn, handed, before, after};
+ghost use Rattle.machine.specs.Runs.{Runs};
 
 // The answer, the steps that were done, the registers after them but R0 to R31, and what was counted.
 pub struct Ran {
@@ -136,31 +132,23 @@ const OPCODES: [u8; 64] = [
     0,
 ];
 
-// Run at most n instructions, on a record by value.
+// Run at most n instructions. The registers are lent, so that a call copies them in and out once.
 pub fn run(
-    p: Processor,
+    r: &mut [u64; 32],
+    q: Special,
     mem: &mut [u8],
     macs: &mut [u8],
     cache: &mut [u8],
     dir: &mut [u32],
     n: u64,
-) -> Answer
+) -> Ran
     requires { ⌜ (128 ≤ length (now mem)) × (length (now dir) ≤ 64) × (n ≤ 10000) ⌝ }
-    requires { ⌜ Fit (machineIn (handed p mem macs cache dir) .memory) ⌝ }
-    ensures { λ a. ⌜ RunGives n (before p mem macs cache dir) (a .report) (after (a .processor) mem macs cache dir) ⌝ }
+    requires { ⌜ Fit (lent (q .drkhi) (q .drklo) (now mem) (now macs) (now cache) (now dir)) ⌝ }
+    ensures { λ x. ⌜ Runs n (machineOf (now (r .entry)) q (now (mem .entry)) (now (macs .entry)) (now (cache .entry))
+        (now (dir .entry))) (x .answer) (x .steps) (countsIn (x .counts))
+        (machineOf (now (r .exit)) (x .special) (now (mem .exit)) (now (macs .exit)) (now (cache .exit))
+        (now (dir .exit))) ⌝ }
 {
     let t = OPCODES;
-    let mut r = p.r;
-    let q = p.special;
-    let x = steps(&t, &mut r, q, mem, macs, cache, dir, n);
-    let s = x.special;
-    let k = x.counts;
-    Answer {
-        processor: Processor { r, special: s },
-        report: Report {
-            answer: x.answer,
-            steps: x.steps,
-            counts: k,
-        },
-    }
+    steps(&t, r, q, mem, macs, cache, dir, n)
 }

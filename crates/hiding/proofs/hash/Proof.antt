@@ -1,10 +1,13 @@
 -- `hiding::hash` meets its promise.
 use borrow.Author.Needs.{needs}
-use Prim.Native.Nat.{_-_, _≤_}
+use Prim.Native.Nat.{ℕ, _-_, _≤_}
 use mathlib.Core.Path.{_≡_, refl, sym, ap, _∙_}
 use native.Mathlib.Omega.{arith}
+use mathlib.Core.List.{List}
 use lib.ListN.{length}
-use Rattle.sealing.specs.Lines.{macOf}
+use Rattle.aes_standard.specs.Schedule.{keyExpansion}
+use Rattle.cmac.specs.Cmac.{cmac}
+use Rattle.sealing.specs.Lines.{drkOf, macOf}
 use Rattle.texts.proofs.TextLaws.{big-size}
 use Rattle.hiding.proofs.RegisterLaws.{TextTo, text-more, text-all}
 use Rattle.hiding.proofs.hash.Statement.{statement}
@@ -42,17 +45,21 @@ loop-again c =
           (c .before .put .ensures) (turn .inv .3),
     )
 
-slice-aggregate-mac-of : tie.Need-slice-aggregate-mac-of Inv-loop μ-loop
-slice-aggregate-mac-of c = sym (c .before .before .loop .inv .3 .size)
+slice-aggregate-sign : tie.Need-slice-aggregate-sign Inv-loop μ-loop
+slice-aggregate-sign c = sym (c .before .before .before .before .before .before .loop .inv .3 .size)
 
 returns : tie.Need-returns Inv-loop μ-loop
+unfolding macOf drkOf
 returns c =
-    let turn = c .before .before .before .loop in
-    c .mac-of .ensures
+    let words = c .before .before .before in
+    let drk = words .before .before in
+    let turn = drk .before .before .loop in
+    c .sign .ensures
+    ∙ ap (λ (w : List ℕ). cmac w (turn .m)) (words .expand .ensures ∙ ap keyExpansion (drk .pair .ensures))
     ∙ ap (macOf _) (text-all (turn .i) _ (turn .m) (omega arith) (turn .inv .2) (turn .inv .3))
 
 pub hash-spec : {M : Type 1} → statement M
 hash-spec = tie.close (tie.spec Inv-loop μ-loop (λ c. search needs) loop-holds (λ c. search needs)
     (λ c. search needs) (λ c κs. search needs) slice-aggregate-put slice-aggregate-put-2 (λ c. search needs)
-    (λ c. search needs) put-requires (λ c. search needs) (λ c. search needs) loop-again slice-aggregate-mac-of
-    (λ c κs. search needs) returns)
+    (λ c. search needs) put-requires (λ c. search needs) (λ c. search needs) loop-again (λ c κs. search needs)
+    (λ c κs. search needs) slice-aggregate-sign (λ c κs. search needs) returns)

@@ -8,7 +8,7 @@ use Rattle.machine.proofs.run.run.Tie as tie
 steps-requires : tie.Need-steps-requires
 unfolding opcodeTable
 steps-requires c κs =
-    let at-start = c .before .before .before .before .before .before .before .before .before .before .before .before in
+    let at-start = c .before .before .before .before .before .before .before .before .before .before in
     (refl, (at-start .pre .0, at-start .pre .1))
 
 pub run-spec : {M : Type 1} → statement M
