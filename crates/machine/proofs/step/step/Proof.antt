@@ -22,6 +22,9 @@ at-decide c = c .before .before .before .before .before
 abbrev at-access : tie.After-add → tie.After-access
 at-access c = c .before .before .before .before .before .before .before .before .before
 
+abbrev back-to-access : tie.After-s → tie.After-access
+back-to-access c = c .before .before .before .before .before .before .before .before .before .before .before .before
+
 fetch-requires : tie.Need-fetch-requires
 fetch-requires c κs =
     let at-fault = c .before .before .before .before in
@@ -80,22 +83,22 @@ finish-requires c κs = at-decide
 
 same-length : tie.Need-same-length
 same-length c =
-    let accessed = c .before .before .before .before .before .before .before .before .before .before .before .before in
+    let accessed = back-to-access c in
     accessed .access .kept .1 .1 .0 ∙ at-fetch (at-decide accessed) .fetch .kept .1 .1 .0
 
 same-length-2 : tie.Need-same-length-2
 same-length-2 c =
-    let accessed = c .before .before .before .before .before .before .before .before .before .before .before .before in
+    let accessed = back-to-access c in
     accessed .access .kept .1 .1 .1 .0 ∙ at-fetch (at-decide accessed) .fetch .kept .1 .1 .1 .0
 
 same-length-3 : tie.Need-same-length-3
 same-length-3 c =
-    let accessed = c .before .before .before .before .before .before .before .before .before .before .before .before in
+    let accessed = back-to-access c in
     accessed .access .kept .1 .1 .1 .1 .0 ∙ at-fetch (at-decide accessed) .fetch .kept .1 .1 .1 .1 .0
 
 same-length-4 : tie.Need-same-length-4
 same-length-4 c =
-    let accessed = c .before .before .before .before .before .before .before .before .before .before .before .before in
+    let accessed = back-to-access c in
     accessed .access .kept .1 .1 .1 .1 .1 .0 ∙ at-fetch (at-decide accessed) .fetch .kept .1 .1 .1 .1 .1 .0
 
 returns : tie.Need-returns
