@@ -19,7 +19,7 @@ use Rattle.model.specs.Requests.{access}
 use Rattle.model.specs.Uncached.{Uncached, uncachedHandle}
 use Rattle.model.specs.Cached.{Cached, serves, hitPlace, evictPlace, thenDo, readyPlace, writePlace}
 use Rattle.model.proofs.LineLaws.{mac-length, stored-sized, signed-length, seen-stored, passes-signed}
-use Rattle.model.proofs.Ways.{serving}
+use Rattle.model.proofs.CachedRules.{serving}
 use Rattle.keeps.specs.Good.{Good}
 use Rattle.keeps.proofs.Evict.{evict-here}
 use Rattle.keeps.proofs.Access.{Placed, chosen-placed, evict-placed, hit-placed, write-good}

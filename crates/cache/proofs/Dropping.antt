@@ -7,7 +7,7 @@ use Rattle.model.specs.Log.{Counts, noCounts, countsOf}
 use Rattle.model.specs.Placement.{Placement}
 use Rattle.model.specs.PlacementLaws.{PlacementLaws}
 use Rattle.model.specs.Cached.{Cached, holds, evictPlace, evictLine}
-use Rattle.model.proofs.Ways.{drop-held, drop-other}
+use Rattle.model.proofs.CachedRules.{drop-held, drop-other}
 use Rattle.directory.proofs.DirectLaws.{direct-laws}
 use Rattle.ciphers.specs.Cipher.{aesCipher}
 use Rattle.cache.specs.Lent.{Fit, FitAt}

@@ -12,7 +12,7 @@ use Rattle.model.specs.Placement.{Placement}
 use Rattle.model.specs.PlacementLaws.{PlacementLaws}
 use Rattle.model.specs.Cached.{Cached, Did, thenDo, evictPlace, evictFrom, evictAll, losePlace, loseFrom, loseAll}
 use Rattle.model.proofs.Sums.{counts-append, plus-none, plus-assoc}
-use Rattle.model.proofs.Ways.{lose-used, lose-free}
+use Rattle.model.proofs.CachedRules.{lose-used, lose-free}
 use Rattle.directory.specs.Direct.{direct}
 use Rattle.ciphers.specs.Cipher.{aesCipher}
 use Rattle.cache.specs.Lent.{FitAt}

@@ -14,7 +14,7 @@ use Rattle.model.specs.Log.{Note, Counts, noCounts, countsOf}
 use Rattle.model.specs.Placement.{Entry, Placement}
 use Rattle.model.specs.Cached.{Cached, evictPlace}
 use Rattle.model.proofs.Sums.{counts-clean}
-use Rattle.model.proofs.Ways.{evict-dirty, evict-clean, evict-free, lose-used, lose-free}
+use Rattle.model.proofs.CachedRules.{evict-dirty, evict-clean, evict-free, lose-used, lose-free}
 use Rattle.model.proofs.LineLaws.{stored-length}
 use Rattle.directory.specs.Direct.{direct}
 use Rattle.directory.proofs.DirectLaws.{direct-laws}

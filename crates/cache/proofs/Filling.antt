@@ -9,7 +9,7 @@ use Rattle.model.specs.Lines.{lineAt, putLine, macAt, passes, seen}
 use Rattle.model.specs.Log.{Note, Counts, countsOf}
 use Rattle.model.specs.Placement.{Placement, holding}
 use Rattle.model.specs.Cached.{Cached, fillPlace}
-use Rattle.model.proofs.Ways.{fill-passed, fill-failed}
+use Rattle.model.proofs.CachedRules.{fill-passed, fill-failed}
 use Rattle.ciphers.specs.Cipher.{aesCipher}
 use Rattle.cache.specs.Does.{Does}
 

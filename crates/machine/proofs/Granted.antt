@@ -18,7 +18,7 @@ use Rattle.model.specs.Placement.{Placement, holding}
 use Rattle.model.specs.Requests.{perform}
 use Rattle.model.specs.Cached.{Cached, Did, cached, cachedHandle, readyPlace, hitPlace, writePlace, accessPlace}
 use Rattle.model.specs.Cached.{serves, evictAll, evictPlace, fillPlace, thenDo}
-use Rattle.model.proofs.Ways.{ready-hit, ready-miss}
+use Rattle.model.proofs.CachedRules.{ready-hit, ready-miss}
 use Rattle.directory.specs.Direct.{direct}
 use Rattle.instructions.specs.Wishes.{Wish, idle, word, grant, gotFrom}
 use Rattle.sealing.specs.Lines.{drkOf}

@@ -2,6 +2,6 @@
 pub mod LineLaws
 pub mod Perform
 pub mod Sums
-pub mod Ways
+pub mod CachedRules
 pub mod Traps
 pub mod Manual
