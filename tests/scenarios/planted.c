@@ -5,16 +5,18 @@
 
 #include "model.c"
 
-/* Turns a bit of byte n of a part at the nth call that gives it, where PLANTED names the part; status 3 behind its last byte. */
+/* Turns a bit of byte n of a part at the nth call that gives it, where PLANTED names the part. Behind its last byte: status 3, or
+   nothing where PLANTED_ONCE is set, so that the text must show the error. */
 static void err(const char *part, void *bytes, size_t length)
 {
     static size_t at;
     const char *planted = getenv("PLANTED");
     if (planted == NULL || strcmp(planted, part) != 0)
         return;
-    if (at >= length)
+    if (at < length)
+        ((uint8_t *)bytes)[at++] ^= 1;
+    else if (getenv("PLANTED_ONCE") == NULL)
         exit(3);
-    ((uint8_t *)bytes)[at++] ^= 1;
 }
 
 static struct outcome err_run(struct board_record *r, const struct lent *l, uint64_t n)

@@ -6,8 +6,8 @@ use Rattle.aes_standard.specs.State.{at, state}
 use Rattle.aes_standard.specs.Schedule.{keyExpansion}
 use Rattle.aes_standard.specs.Cipher.{invCipher}
 use Rattle.aes_standard.proofs.RoundTrip.{invCipher-state}
-use Rattle.rounds.specs.declared.columns.Columns.{Columns}
-use Rattle.rounds.specs.Words.{blockOf, changed}
+use Rattle.columns.specs.declared.Columns.{Columns}
+use Rattle.columns.specs.Words.{blockOf, changed}
 use Rattle.rounds.specs.Ways.{flipped, eqInvCipher}
 use Rattle.rounds.proofs.WayLaws.{block-changed}
 use Rattle.schedule.specs.Inverse.{InverseKeys}

@@ -1,5 +1,4 @@
 // AES-128 (FIPS 197): a key schedule for many blocks, a block enciphered or deciphered, and whole blocks in a chain.
-use rounds::columns;
 ghost use mathlib.Core.Path.{_≡_};
 ghost use Rattle.aes_standard.specs.Cipher.{cipher, invCipher};
 ghost use Rattle.aes_standard.specs.Schedule.{keyExpansion};

@@ -44,7 +44,7 @@ unfolding plus
 plus-block a b ha hb = state-block (λ i. at a i ⊕ at b i)
     (λ i. ⊕-lt 8 (at a i) (at b i) (ha .byte i) (hb .byte i))
 
--- adding a block flipped-flipped takes it away again
+-- adding a block twice takes it away again
 pub plus-again : (a b : List ℕ) → plus (plus a b) b ≡ state (at a)
 unfolding plus
 plus-again a b k = state (λ i. ⊕-again (at a i) (at b i) k)

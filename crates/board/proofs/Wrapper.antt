@@ -113,8 +113,7 @@ fitting s = (tt, (tt, (record { fits = s .fits }, tt)))
 abbrev pub sliced : {Y : Type 0} (y : RefT (List Y)) → length (y .now) < 2 ^ 64 → Sliced
 sliced y fits = record { start = y .ptr; count = length (y .now); fits = fits }
 
--- ---- the contracts
--- the callee takes the record by value, and the wrapper a reference to it, at a lifetime more
+-- ---- the contracts the callee takes the record by value, and the wrapper a reference to it, at a lifetime more
 abbrev pub inner : (n : ℕ) → List (Slot n) → Signature
 inner n ts = record {
   lifetimes = n;

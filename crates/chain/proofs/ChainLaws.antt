@@ -9,7 +9,7 @@ use lib.Seq.{take-at, drop-at, drop-drop, length-take-le}
 use Rattle.field.specs.Field.{_⊕_}
 use Rattle.lists.specs.Parts.{partAt, putAt}
 use Rattle.lists.proofs.PartLaws.{length-put}
-use Rattle.rounds.specs.declared.columns.Columns.{Columns}
+use Rattle.columns.specs.declared.Columns.{Columns}
 use Rattle.aes_standard.specs.State.{at, state, plus}
 use Rattle.aes_standard.specs.Cipher.{cipher, invCipher}
 use Rattle.schedule.specs.Inverse.{InverseKeys}
@@ -17,10 +17,10 @@ use Rattle.rounds.specs.Ways.{flipped, eqInvCipher}
 use Rattle.chain.specs.Equivalent.{eqDecrypt}
 use Rattle.aes_standard.specs.Schedule.{keyExpansion}
 use Rattle.schedule.proofs.InverseLaws.{eqInvCipher-invCipher}
-use Rattle.rounds.specs.Words.{fourWords, blockOf}
-use Rattle.rounds.proofs.WordLaws.{bytes-⊕, bytes-of, four-bytes}
+use Rattle.columns.specs.Words.{fourWords, blockOf}
+use Rattle.columns.proofs.WordLaws.{bytes-⊕, bytes-of, four-bytes}
 use Rattle.aes_standard.specs.Chain.{chained, unchained, absorbed, lastOfChain, cbcDecrypt}
-use Rattle.rounds.proofs.StoreLaws.{state-partAt}
+use Rattle.columns.proofs.StoreLaws.{state-partAt}
 
 -- what stands before and behind a part that was replaced
 pub take-putAt : (a k : ℕ) (x l : List ℕ) → length x ≡ k → a ≤ length l

@@ -1,6 +1,5 @@
 // Whole blocks in a chain: CBC encryption and decryption in place, and the last block of a chain.
-use rounds::columns;
-use rounds::columns::Columns;
+use columns::Columns;
 ghost use mathlib.Core.Path.{_≡_};
 ghost use Prim.Native.Nat.{_+_, _≤_};
 ghost use lib.ListN.{length};
@@ -13,7 +12,7 @@ ghost use Rattle.aes_standard.specs.Cipher.{cipher};
 ghost use Rattle.aes_standard.specs.Schedule.{keyExpansion};
 ghost use Rattle.aes_standard.specs.Chain.{lastOfChain, cbcEncrypt, cbcDecrypt};
 ghost use Rattle.chain.specs.Equivalent.{unlinked, eqDecrypt};
-ghost use Rattle.rounds.specs.Words.{blockOf};
+ghost use Rattle.columns.specs.Words.{blockOf};
 
 // A block at place k added to the block before and enciphered.
 fn link(t: &[u32; 256], w: &[u32; 44], before: Columns, b: &[u8], k: usize) -> Columns

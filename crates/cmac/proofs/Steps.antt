@@ -13,9 +13,9 @@ use Rattle.field.proofs.Xor.{⊕-zero}
 use Rattle.aes_standard.specs.State.{at, state, byteOf, plus}
 use Rattle.aes_standard.specs.Cipher.{cipher}
 use Rattle.aes_standard.specs.Chain.{lastOfChain}
-use Rattle.rounds.specs.declared.columns.Columns.{Columns}
-use Rattle.rounds.specs.Words.{Bytes, fourWords, blockOf}
-use Rattle.rounds.proofs.WordLaws.{bytes-⊕, bytes-of, four-bytes}
+use Rattle.columns.specs.declared.Columns.{Columns}
+use Rattle.columns.specs.Words.{Bytes, fourWords, blockOf}
+use Rattle.columns.proofs.WordLaws.{bytes-⊕, bytes-of, four-bytes}
 use Rattle.cmac.specs.Subkeys.{shifted, lastByte, doubled, Shifted, subkey1, subkey2}
 use Rattle.cmac.specs.Cmac.{beforeLast, padded, lastBlock, cmac}
 

@@ -5,7 +5,7 @@ use lib.ListN.{drop}
 use Rattle.lists.specs.Bytes.{zeros}
 use Rattle.aes_standard.specs.State.{at, state, byteOf, plus}
 use Rattle.aes_standard.specs.Cipher.{cipher}
-use Rattle.rounds.specs.Words.{Bytes}
+use Rattle.columns.specs.Words.{Bytes}
 
 -- A block shifted to the left by one digit: each byte doubled, with the highest digit of the byte behind it.
 unfoldable pub shifted : List ℕ → List ℕ

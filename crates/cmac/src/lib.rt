@@ -1,6 +1,5 @@
 // CMAC with AES-128 (SP 800-38B, RFC 4493): the MAC of a message of any length, as the caller lends it.
-use rounds::columns;
-use rounds::columns::Columns;
+use columns::Columns;
 ghost use mathlib.Core.Path.{_≡_};
 ghost use Prim.Native.Nat.{_≤_};
 ghost use lib.ListN.{length};

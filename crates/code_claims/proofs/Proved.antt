@@ -11,16 +11,20 @@ use Rattle.sealing.specs.Lines.{drkOf}
 use Rattle.model.specs.Uncached.{Uncached}
 use Rattle.model.specs.Cached.{Cached, asItStands}
 use Rattle.instructions.specs.Board.{documentBoard}
+use Rattle.instructions.specs.Record as r
+use Rattle.instructions.specs.Record.{reset}
 use Rattle.instructions.specs.Calls.{Call, Machine, Result, uncachedSetup, called}
 use Rattle.ciphers.specs.Cipher.{aesCipher}
 use Rattle.ciphers.proofs.Laws.{aesLaws}
 use Rattle.demand3.specs.Statement as meaning
 use Rattle.demand3.specs.Statement.{writtenBack, withCache, withoutCache, SameOutside}
 use Rattle.demand3.proofs.Document.{demand3-from-reset}
+use Rattle.registers.specs.declared.record.Processor.{Processor}
+use Rattle.registers.specs.Effects.{Holds}
 use Rattle.machine.specs.Lent.{Lent, machineIn}
 use Rattle.host.specs.Outcome.{resultOf, Gives, Leaves}
 use Rattle.code_claims.specs.Claim.{Made, Session, ended, andThen, beside, Same, AlwaysSame, none, next}
-use Rattle.code_claims.specs.Claim.{Demand3AtTheCode}
+use Rattle.code_claims.specs.Claim.{AfterReset, Demand3AtTheCode}
 
 module _ (call : Call) (l : Lent) (made : Made call l) where
   -- the call of the meaning
@@ -69,6 +73,12 @@ drk-sized hi lo =
       size = length-append (bigBytes 8 hi) (bigBytes 8 lo) ∙ rw (length-bigBytes 8 hi, length-bigBytes 8 lo);
       bytes = bytes-append (bigBytes 8 hi) (bigBytes 8 lo) (bytes-bigBytes 8 hi) (bytes-bigBytes 8 lo);
     }
+
+-- such a start there is: what `registers::record::cleared`, and so every reboot and power cut, leaves of any record
+pub cleared-after-reset : {was : r.Processor} {key : List ℕ} (p : Processor)
+    → Holds (reset documentBoard was) key (p .r) (p .special)
+    → AfterReset p
+cleared-after-reset {was = was} p h = record { was = was; cleared = h .record′ }
 
 pub a-cache-changes-the-counts-and-nothing-else : Demand3AtTheCode
 unfolding asItStands

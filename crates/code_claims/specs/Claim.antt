@@ -1,8 +1,7 @@
 -- Demand 3 at the code, as the customer reads it. `Leaves` is the whole contract of each call of `host`, and of its
--- outer face; here such calls are made one
--- after the other on one record and four buffers, and beside them the same calls on the manual's machine with no cache.
--- What a reader must believe: `instructions` and `model` (the machine and its two memories),
--- `host/specs/Outcome.antt` (what a contract says), and this page.
+-- outer face; here such calls are made one after the other on one record and four buffers, and beside them the same
+-- calls on the manual's machine with no cache. What a reader must believe: `instructions` and `model` (the machine and
+-- its two memories), `host/specs/Outcome.antt` (what a contract says), and this page.
 use Prim.Native.Nat.{ℕ, _*_, _/_, _≤_}
 use mathlib.Core.Path.{_≡_}
 use mathlib.Core.Bool.{true}
@@ -45,8 +44,8 @@ beside call u after = called documentBoard aesCipher (uncachedSetup aesCipher
     (asItStands (machineIn after .memory))) call u
 
 -- the two cannot be told apart: the answer, run's steps, the later bytes of the call's buffer, the whole record, and
--- the DRK, memory and MAC area once
--- everything is written back. The counts, the cache's bytes and the directory are not compared
+-- the DRK, memory and MAC area once everything is written back. The counts, the cache's bytes and the directory are not
+-- compared
 pub record Same (u : Result Uncached) (x : Report) (buffer : List ℕ) (after : Lent) : Type 0 where
   pub answers : u .answer ≡ x .answer
   pub steps : u .steps ≡ x .steps
@@ -73,10 +72,9 @@ pub record AfterReset (p : Processor) : Type 0 where
 abbrev pub withEmptyCache : Processor → List ℕ → List ℕ → ℕ → Lent
 withEmptyCache p mem macs C = record { processor = p; mem = mem; macs = macs; cache = zeros (C * 64); dir = zeros C }
 
--- Demand 3: from reset with an empty cache, whatever the memory, the MACs, the DRK and the SRH, for every allowed
--- cache size and every session
--- of calls, a cache changes the counts and nothing else. (Memory and the lent buffers are bytes, which is what their
--- type says.)
+-- Demand 3: from reset with an empty cache, whatever the memory, the MACs, the DRK and the SRH, for every allowed cache
+-- size and every session of calls, a cache changes the counts and nothing else. (Memory and the lent buffers are bytes,
+-- which is what their type says.)
 abbrev pub Demand3AtTheCode : Type 0
 Demand3AtTheCode =
     (p : Processor) → AfterReset p → (mem macs : List ℕ) (C : ℕ) → Bytes mem

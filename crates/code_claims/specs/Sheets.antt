@@ -1,6 +1,6 @@
 -- The two sheets obey the customer's rule: beside the cold run and beside the warm run stands the machine without a
--- cache, and the registers, the fault, the steps
--- and both memories once written back are its own. What the two sheets differ in are the counts.
+-- cache, and the registers, the fault, the steps and both memories once written back are its own. What the two sheets
+-- differ in are the counts.
 use Prim.Native.Nat.{ℕ}
 use Rattle.model.specs.Uncached.{Uncached}
 use Rattle.model.specs.Cached.{Cached, asItStands}

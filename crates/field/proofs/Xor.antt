@@ -47,7 +47,7 @@ pub ⊕-swap : (a b c d : ℕ) → (a ⊕ b) ⊕ (c ⊕ d) ≡ (a ⊕ c) ⊕ (b 
     ∙ ⊕-assoc c b d)
     ∙ sym (⊕-assoc a c (b ⊕ d))
 
--- adding flipped-flipped takes away again
+-- adding twice takes away again
 pub ⊕-again : (a b : ℕ) → a ⊕ b ⊕ b ≡ a
 ⊕-again a b = ⊕-assoc a b b ∙ ap (λ (x : ℕ). a ⊕ x) (⊕-self b) ∙ ⊕-zero a
 

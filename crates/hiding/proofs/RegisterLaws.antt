@@ -16,8 +16,8 @@ use Rattle.field.specs.Field.{_⊕_}
 use Rattle.aes_standard.specs.State.{at, state, plus}
 use Rattle.aes_standard.specs.Schedule.{keyExpansion}
 use Rattle.aes_standard.specs.Cipher.{cipher}
-use Rattle.rounds.specs.declared.columns.Columns.{Columns}
-use Rattle.rounds.specs.Words.{fourWords, blockOf}
+use Rattle.columns.specs.declared.Columns.{Columns}
+use Rattle.columns.specs.Words.{fourWords, blockOf}
 use Rattle.cmac.proofs.Steps.{last-added}
 use Rattle.chain.proofs.ChainLaws.{take-putAt}
 use Rattle.cmac.specs.Subkeys.{lastByte}

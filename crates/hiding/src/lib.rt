@@ -1,6 +1,5 @@
 // The hash of the registers and the key stream that hides them (document 01, 'Suspend').
-use rounds::columns;
-use rounds::columns::Columns;
+use columns::Columns;
 ghost use mathlib.Core.Path.{_≡_};
 ghost use mathlib.Core.List.{_∷_};
 ghost use lib.ListN.{drop};

@@ -64,8 +64,7 @@ module _ {call : Call} {l : Lent} {no : ℕ} (j : Judged call l no) (right : no 
       let slots = both-hold (leb 1 (length (l .dir))) (leb (length (l .dir)) 64) (in-order j right .slots) in
       ((leb-true 128 M (size .0), leb-true (length (l .dir)) 64 (slots .1), run-is n (sym (ap firstOf e) ∙ own)), fit)
 
--- ---- what is left behind it
--- a record holds what it is read as
+-- ---- what is left behind it a record holds what it is read as
 pub same-record : (p : code.Processor) → Holds (processorOf (p .r) (p .special)) (keyOf (p .special)) (p .r)
     (p .special)
 same-record p = record { record′ = refl; key′ = refl }

@@ -48,8 +48,7 @@ module _ (B : Board) (c : Cipher) (call : Call) (m : Machine Cached) {no : ℕ} 
     unfolding cachedSetup cached
     own-none = none-refused (cachedSetup B c) call m (sym is ∙ right)
 
--- ---- on the board of document 01
--- the number that a call's head found is the meaning's refusal
+-- ---- on the board of document 01 the number that a call's head found is the meaning's refusal
 pub record Judged (call : Call) (l : Lent) (no : ℕ) : Type 0 where
   pub number : no ≡ refusal (cachedSetup documentBoard aesCipher) call (machineIn l)
 

@@ -30,8 +30,7 @@ pub record Gives (x : Result Cached) (report : Report) (buffer : List ℕ) (m : 
   pub left : m ≡ x .machine
 
 -- A call on what was lent leaves a report, the later bytes of the call's own buffer, and another record and four
--- buffers: what the meaning's
--- call gives.
+-- buffers: what the meaning's call gives.
 unfoldable pub Leaves : Call → Lent → Report → List ℕ → Lent → Type 0
 Leaves call l report buffer l′ = Gives (resultOf call (machineIn l)) report buffer (machineIn l′)
 

@@ -1,4 +1,4 @@
-// What run and every call of the host give: the record after them, and a report.
+// What every call of the host gives: the record after it, and a report.
 use cache::slots::Counts;
 use registers::record::Processor;
 

@@ -9,7 +9,7 @@ use registers::decide::Wanted;
 ghost use mathlib.Core.Path.{_≡_};
 ghost use mathlib.Core.Bool.{Bool, true, false};
 ghost use Prim.Native.Nat.{_+_, _*_, _/_, _%_, _<_, _≤_};
-ghost use lib.ListN.{length, set};
+ghost use lib.ListN.{length};
 ghost use Rattle.lists.specs.If.{if};
 ghost use Rattle.lists.specs.Parts.{partAt, putAt};
 ghost use Rattle.lists.specs.Words.{little, littleBytes};

@@ -1,5 +1,3 @@
--- The laws of words, of buffers that they are laid down in, and of rounds.
-pub mod WordLaws
-pub mod StoreLaws
+-- The laws of rounds.
 pub mod RoundLaws
 pub mod WayLaws

@@ -8,11 +8,11 @@ use Rattle.field.specs.Field.{_⊕_, _•_}
 use Rattle.field.specs.Mixing.{word, share}
 use Rattle.field.proofs.Product.{•-lt}
 use Rattle.field.proofs.MixingLaws.{row, ⊕-turn}
-use Rattle.rounds.specs.declared.columns.Columns.{Columns}
+use Rattle.columns.specs.declared.Columns.{Columns}
 use Rattle.aes_standard.specs.State.{at, state, byteOf, shiftRows, mixWith, addRoundKey}
 use Rattle.rounds.specs.Ways.{Way, Shares, Puts, Round, Last, movedBy, roundBy, lastBy}
-use Rattle.rounds.specs.Words.{Bytes, RoundKey, turned, fourWords, blockOf, sharedWord, pickedWord, lowestWord}
-use Rattle.rounds.proofs.WordLaws.{word-bytes, turned-bytes, bytes-⊕, bytes-of, four-bytes}
+use Rattle.columns.specs.Words.{Bytes, RoundKey, turned, fourWords, blockOf, sharedWord, pickedWord, lowestWord}
+use Rattle.columns.proofs.WordLaws.{word-bytes, turned-bytes, bytes-⊕, bytes-of, four-bytes}
 use Rattle.aes_standard.proofs.WordBytes.{byteOf-last, byteOf-lt}
 
 -- the code's sum of four look-ups is the sum of the shares

@@ -11,8 +11,8 @@ use Rattle.field.proofs.MixingLaws.{one-•}
 use Rattle.aes_standard.specs.State.{at, subBytes, mixColumns, addRoundKey}
 use Rattle.aes_standard.specs.Cipher.{round, rounds, cipher}
 use Rattle.aes_standard.proofs.WordBytes.{byteOf-last}
-use Rattle.rounds.specs.declared.columns.Columns.{Columns}
-use Rattle.rounds.specs.Words.{blockOf, changed}
+use Rattle.columns.specs.declared.Columns.{Columns}
+use Rattle.columns.specs.Words.{blockOf, changed}
 use Rattle.rounds.specs.Ways.{there, back, movedBy, roundBy, roundsBy, lastBy, cipherBy, Shares, Puts, flipped}
 use Rattle.rounds.proofs.RoundLaws.{looked-up}
 

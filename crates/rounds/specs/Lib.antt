@@ -1,3 +1,2 @@
--- A state in four words, and the two ways through the rounds.
-pub mod Words
+-- The two ways through the rounds.
 pub mod Ways

@@ -1,14 +1,12 @@
 // The rounds of the cipher on columns, through tables that the caller lends; the inverse cipher takes the same rounds
 // by tables of its own.
-pub mod columns;
-
-use crate::columns::Columns;
+use columns::Columns;
 ghost use mathlib.Core.Path.{_≡_};
 ghost use Prim.Native.Nat.{_≤_};
 ghost use Rattle.field.specs.Field.{_⊕_};
 ghost use Rattle.aes_standard.specs.State.{addRoundKey};
 ghost use Rattle.rounds.specs.Ways.{Round, Last};
-ghost use Rattle.rounds.specs.Words.{RoundKey, blockOf, sharedWord, substitutedWord, lowestWord};
+ghost use Rattle.columns.specs.Words.{RoundKey, blockOf, sharedWord, substitutedWord, lowestWord};
 
 // The shares of four bytes in their column, plus a word of a round key.
 pub fn shared(t: &[u32; 256], a: u32, b: u32, c: u32, d: u32, k: u32) -> u32

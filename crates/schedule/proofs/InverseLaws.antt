@@ -13,12 +13,12 @@ use Rattle.field.specs.Table.{Table}
 use Rattle.field.proofs.Xor.{⊕-zero}
 use Rattle.field.proofs.MixingLaws.{row, row-⊕}
 use Rattle.field.proofs.SBoxLaws.{sub-undone}
-use Rattle.rounds.specs.declared.columns.Columns.{Columns}
+use Rattle.columns.specs.declared.Columns.{Columns}
 use Rattle.aes_standard.specs.State.{at, byteOf, shiftRows, mixWith, addRoundKey, invSubBytes, invShiftRows}
 use Rattle.aes_standard.specs.State.{invMixColumns}
 use Rattle.aes_standard.specs.Cipher.{invRound, invRounds, invCipher}
 use Rattle.rounds.specs.Ways.{back, movedBy, roundBy, roundsBy, lastBy, cipherBy, Shares, flipped, eqInvCipher}
-use Rattle.rounds.specs.Words.{RoundKey, fourSet, sharedWord, substitutedWord, changed}
+use Rattle.columns.specs.Words.{RoundKey, fourSet, sharedWord, substitutedWord, changed}
 use Rattle.schedule.specs.Inverse.{Unmixed, Taken, InverseKey, InverseKeys}
 use Rattle.aes_standard.proofs.WordBytes.{byteOf-lt}
 use Rattle.rounds.proofs.RoundLaws.{shared-bytes, picked-bytes}

@@ -10,10 +10,10 @@ use lib.Seq.{sets-eq, take-at, take-all, length-take-le}
 use Rattle.field.specs.Field.{_⊕_, subByte}
 use Rattle.field.specs.Mixing.{word}
 use Rattle.field.specs.Table.{Table}
-use Rattle.rounds.specs.declared.columns.Columns.{Columns}
+use Rattle.columns.specs.declared.Columns.{Columns}
 use Rattle.aes_standard.specs.State.{at, byteOf}
 use Rattle.aes_standard.specs.Schedule.{subWord, rotWord, rcon, wordsFrom, keyExpansion}
-use Rattle.rounds.specs.Words.{turned, pickedWord, substitutedWord, NextKey, Loaded, fourSet}
+use Rattle.columns.specs.Words.{turned, pickedWord, substitutedWord, NextKey, Loaded, fourSet}
 use Rattle.aes_standard.proofs.WordBytes.{byteOf-lt}
 
 -- a word turned and substituted by the code is SubWord of RotWord

@@ -1,13 +1,12 @@
 -- The equivalent inverse cipher (FIPS 197, section 5.3.5) as a way through the cipher's own rounds: its round keys
--- stand in the order of their use, and in
--- each state and each round key the second and the fourth column have changed places, so that ShiftRows moves its rows
--- to the right.
+-- stand in the order of their use, and in each state and each round key the second and the fourth column have changed
+-- places, so that ShiftRows moves its rows to the right.
 use mathlib.Core.List.{List}
 use mathlib.Core.Path.{_≡_}
 use Prim.Native.Nat.{ℕ, _+_, _-_, _*_, _%_, _<_, _≤_}
-use Rattle.rounds.specs.declared.columns.Columns.{Columns}
+use Rattle.columns.specs.declared.Columns.{Columns}
 use Rattle.aes_standard.specs.State.{at, invMixColumns}
-use Rattle.rounds.specs.Words.{Bytes, fourWords}
+use Rattle.columns.specs.Words.{Bytes, fourWords}
 
 -- The word v is InvMixColumns of the word w.
 abbrev pub Unmixed : ℕ → ℕ → Type 0

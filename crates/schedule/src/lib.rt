@@ -1,13 +1,12 @@
 // The key schedule, and the round keys of the equivalent inverse cipher.
-use rounds::columns;
-use rounds::columns::Columns;
+use columns::Columns;
 ghost use mathlib.Core.Path.{_≡_};
 ghost use Prim.Native.Nat.{_*_, _≤_};
 ghost use Rattle.field.specs.Field.{subByte};
 ghost use Rattle.field.specs.Mixing.{unmixedEntry};
 ghost use Rattle.field.specs.Table.{Table};
 ghost use Rattle.aes_standard.specs.Schedule.{keyExpansion};
-ghost use Rattle.rounds.specs.Words.{NextKey, fourSet};
+ghost use Rattle.columns.specs.Words.{NextKey, fourSet};
 ghost use Rattle.schedule.specs.Inverse.{Unmixed, InverseKey, InverseKeys};
 
 // The round constants, Rcon[1] to Rcon[10].

@@ -11,8 +11,8 @@ use Rattle.lists.specs.Words.{little, big, littleBytes, bigBytes}
 use Rattle.lists.proofs.WordLaws.{length-bigBytes}
 use Rattle.aes_standard.specs.State.{at, byteOf}
 use Rattle.field.specs.Mixing.{word}
-use Rattle.rounds.specs.Words.{WordAt, fourWords}
-use Rattle.rounds.proofs.StoreLaws.{tabulate-partAt}
+use Rattle.columns.specs.Words.{WordAt, fourWords}
+use Rattle.columns.proofs.StoreLaws.{tabulate-partAt}
 
 -- dividing by 256 again and again
 abbrev divided : ℕ → ℕ → ℕ

@@ -1,6 +1,5 @@
 // Numbers as bytes, high byte first, and the text of which a line's MAC is made.
-use rounds::columns;
-use rounds::columns::Columns;
+use columns::Columns;
 ghost use mathlib.Core.Path.{_≡_};
 ghost use mathlib.Core.List.{_∷_, _++_};
 ghost use Prim.Native.Nat.{_+_, _≤_, _<_};

@@ -10,8 +10,8 @@ use Rattle.aes_standard.specs.State.{at, state, addRoundKey}
 use Rattle.aes_standard.specs.Cipher.{cipher}
 use Rattle.rounds.specs.Ways.{there, back, roundBy, roundsBy, lastBy, cipherBy, Round, Rounds, Last, Through, flipped}
 use Rattle.rounds.specs.Ways.{eqInvCipher}
-use Rattle.rounds.specs.Words.{changed, blockOf}
-use Rattle.rounds.specs.declared.columns.Columns.{Columns}
+use Rattle.columns.specs.Words.{changed, blockOf}
+use Rattle.columns.specs.declared.Columns.{Columns}
 use Rattle.aes_standard.proofs.RoundTrip.{cipher-state}
 use Rattle.rounds.proofs.WayLaws.{shares-there}
 use Rattle.rounds.proofs.WayLaws.{puts-there}

@@ -1,7 +1,7 @@
 // All rounds of the cipher, or of its inverse, on columns.
-use rounds::columns::Columns;
+use columns::Columns;
 ghost use Rattle.rounds.specs.Ways.{Through};
-ghost use Rattle.rounds.specs.Words.{blockOf};
+ghost use Rattle.columns.specs.Words.{blockOf};
 
 // The way that the tables are for: t has the shares, and the last byte of each entry of u is the byte substituted.
 pub fn through(t: &[u32; 256], u: &[u32; 256], w: &[u32; 44], block: Columns) -> Columns

@@ -1,7 +1,7 @@
 -- `aes::decipher` meets its promise.
 use Rattle.ways.proofs.CipherLaws.{through-back}
 use Rattle.aes.proofs.DecipherLaws.{decipher-is}
-use Rattle.rounds.specs.Words.{blockOf}
+use Rattle.columns.specs.Words.{blockOf}
 use borrow.Author.Needs.{needs}
 use Rattle.aes.proofs.decipher.Statement.{statement}
 use Rattle.aes.proofs.decipher.Tie as tie

@@ -1,7 +1,7 @@
 -- `aes::encipher_to` meets its promise.
-use Rattle.rounds.proofs.StoreLaws.{fourWords-stored, putAt-all}
+use Rattle.columns.proofs.StoreLaws.{fourWords-stored, putAt-all}
 use Rattle.ways.proofs.CipherLaws.{encipher-is}
-use Rattle.rounds.specs.Words.{blockOf}
+use Rattle.columns.specs.Words.{blockOf}
 use mathlib.Core.Path.{_≡_, _∙_}
 use lib.ListN.{length}
 use native.Mathlib.Omega.{arith}

@@ -5,7 +5,7 @@ use mathlib.Core.Path.{_≡_, sym, ap, _∙_}
 use mathlib.Core.List.{List}
 use lib.ListN.{length, drop}
 use native.Mathlib.Omega.{arith}
-use Rattle.rounds.specs.Words.{blockOf}
+use Rattle.columns.specs.Words.{blockOf}
 use Rattle.aes_standard.specs.Chain.{absorbed, lastOfChain}
 use Rattle.chain.proofs.ChainLaws.{absorbed-one, absorbed-none, absorbed-from, absorbed-start}
 use Rattle.chain.proofs.ChainLaws.{lastOfChain-none}

@@ -5,7 +5,7 @@ use mathlib.Core.Path.{refl, ap, _∙_}
 use mathlib.Core.List.{List}
 use lib.ListN.{length}
 use native.Mathlib.Omega.{arith}
-use Rattle.rounds.specs.Words.{blockOf}
+use Rattle.columns.specs.Words.{blockOf}
 use Rattle.aes_standard.specs.Chain.{chained, cbcEncrypt}
 use Rattle.chain.proofs.ChainLaws.{After, after-none, after-more, after-all, chained-one, chained-none}
 use Rattle.chain.proofs.ChainLaws.{chained-from}

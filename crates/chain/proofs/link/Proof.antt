@@ -1,7 +1,7 @@
 -- `chain::link` meets its promise.
 use Rattle.chain.proofs.ChainLaws.{link-is}
 use Rattle.ways.proofs.CipherLaws.{through-there}
-use Rattle.rounds.specs.Words.{blockOf}
+use Rattle.columns.specs.Words.{blockOf}
 use borrow.Author.Needs.{needs}
 use Rattle.chain.proofs.link.Statement.{statement}
 use Rattle.chain.proofs.link.Tie as tie

@@ -5,7 +5,7 @@ use mathlib.Core.Path.{refl, ap, _∙_}
 use mathlib.Core.List.{List}
 use lib.ListN.{length}
 use native.Mathlib.Omega.{arith}
-use Rattle.rounds.specs.Words.{blockOf}
+use Rattle.columns.specs.Words.{blockOf}
 use Rattle.lists.specs.Parts.{partAt}
 use Rattle.aes_standard.specs.State.{plus}
 use Rattle.aes_standard.specs.Chain.{unchained}
@@ -13,7 +13,7 @@ use Rattle.rounds.specs.Ways.{eqInvCipher}
 use Rattle.chain.specs.Equivalent.{eqDecrypt}
 use Rattle.chain.proofs.ChainLaws.{After, after-none, after-more, after-all, unchained-one, unchained-none}
 use Rattle.chain.proofs.ChainLaws.{unchained-from}
-use Rattle.rounds.proofs.StoreLaws.{state-partAt}
+use Rattle.columns.proofs.StoreLaws.{state-partAt}
 use Rattle.chain.proofs.unchain.Statement.{statement}
 use Rattle.chain.proofs.unchain.Tie as tie
 

@@ -1,8 +1,8 @@
 -- `chain::unlink` meets its promise.
-use Rattle.rounds.proofs.StoreLaws.{fourWords-stored}
+use Rattle.columns.proofs.StoreLaws.{fourWords-stored}
 use Rattle.chain.proofs.ChainLaws.{unlink-is}
 use Rattle.ways.proofs.CipherLaws.{through-back}
-use Rattle.rounds.specs.Words.{blockOf}
+use Rattle.columns.specs.Words.{blockOf}
 use Rattle.lists.specs.Parts.{putAt}
 use Rattle.field.specs.Field.{_⊕_}
 use mathlib.Core.Path.{ap, _∙_}

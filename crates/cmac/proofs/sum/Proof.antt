@@ -1,6 +1,6 @@
 -- `cmac::sum` meets its promise.
 use mathlib.Core.Path.{_∙_}
-use Rattle.rounds.specs.Words.{blockOf}
+use Rattle.columns.specs.Words.{blockOf}
 use Rattle.cmac.proofs.Steps.{summed}
 use borrow.Author.Needs.{needs}
 use Rattle.cmac.proofs.sum.Statement.{statement}

@@ -3,7 +3,7 @@ use Rattle.ways.proofs.CipherLaws.{rounds-none, rounds-more, through-do
 use native.Mathlib.Omega.{arith}
 use borrow.Author.Needs.{needs}
 use Prim.Native.Nat.{_≤_, _-_}
-use Rattle.rounds.specs.Words.{blockOf}
+use Rattle.columns.specs.Words.{blockOf}
 use Rattle.rounds.specs.Ways.{Rounds}
 use Rattle.ways.proofs.through.Statement.{statement}
 use Rattle.ways.proofs.through.Tie as tie

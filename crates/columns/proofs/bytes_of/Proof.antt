@@ -1,11 +1,11 @@
--- `rounds::columns::bytes_of` meets its promise.
-use Rattle.rounds.proofs.StoreLaws.{putAt-all}
-use Rattle.rounds.specs.Words.{blockOf}
+-- `columns::bytes_of` meets its promise.
+use Rattle.columns.proofs.StoreLaws.{putAt-all}
+use Rattle.columns.specs.Words.{blockOf}
 use lib.ListN.{replicate}
 use mathlib.Core.Path.{refl, _∙_}
 use borrow.Author.Needs.{needs}
-use Rattle.rounds.proofs.columns.bytes_of.Statement.{statement}
-use Rattle.rounds.proofs.columns.bytes_of.Tie as tie
+use Rattle.columns.proofs.bytes_of.Statement.{statement}
+use Rattle.columns.proofs.bytes_of.Tie as tie
 
 returns : tie.Need-returns
 returns c = c .before .store .ensures

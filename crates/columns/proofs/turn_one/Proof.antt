@@ -1,12 +1,12 @@
--- `rounds::columns::turn_one` meets its promise.
-use Rattle.rounds.proofs.WordLaws.{bytes-word}
-use Rattle.rounds.specs.Words.{turned}
+-- `columns::turn_one` meets its promise.
+use Rattle.columns.proofs.WordLaws.{bytes-word}
+use Rattle.columns.specs.Words.{turned}
 use Rattle.field.specs.Mixing.{word}
 use Rattle.aes_standard.specs.State.{byteOf}
 use native.Mathlib.Omega.{arith}
 use borrow.Author.Needs.{needs}
-use Rattle.rounds.proofs.columns.turn_one.Statement.{statement}
-use Rattle.rounds.proofs.columns.turn_one.Tie as tie
+use Rattle.columns.proofs.turn_one.Statement.{statement}
+use Rattle.columns.proofs.turn_one.Tie as tie
 
 returns : tie.Need-returns
 unfolding byteOf word turned

@@ -1,8 +1,8 @@
--- `rounds::columns::columns_at` meets its promise.
-use Rattle.rounds.proofs.WordLaws.{loaded-at}
+-- `columns::columns_at` meets its promise.
+use Rattle.columns.proofs.WordLaws.{loaded-at}
 use borrow.Author.Needs.{needs}
-use Rattle.rounds.proofs.columns.columns_at.Statement.{statement}
-use Rattle.rounds.proofs.columns.columns_at.Tie as tie
+use Rattle.columns.proofs.columns_at.Statement.{statement}
+use Rattle.columns.proofs.columns_at.Tie as tie
 
 returns : tie.Need-returns
 returns c =

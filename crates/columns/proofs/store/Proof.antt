@@ -1,8 +1,8 @@
--- `rounds::columns::store` meets its promise.
-use Rattle.rounds.proofs.StoreLaws.{fourWords-stored}
+-- `columns::store` meets its promise.
+use Rattle.columns.proofs.StoreLaws.{fourWords-stored}
 use borrow.Author.Needs.{needs}
-use Rattle.rounds.proofs.columns.store.Statement.{statement}
-use Rattle.rounds.proofs.columns.store.Tie as tie
+use Rattle.columns.proofs.store.Statement.{statement}
+use Rattle.columns.proofs.store.Tie as tie
 
 returns : tie.Need-returns
 returns c =

@@ -1,9 +1,9 @@
--- `rounds::columns::columns_of` meets its promise.
-use Rattle.rounds.proofs.WordLaws.{loaded-at}
+-- `columns::columns_of` meets its promise.
+use Rattle.columns.proofs.WordLaws.{loaded-at}
 use Rattle.aes_standard.specs.Schedule.{keyWord}
 use borrow.Author.Needs.{needs}
-use Rattle.rounds.proofs.columns.columns_of.Statement.{statement}
-use Rattle.rounds.proofs.columns.columns_of.Tie as tie
+use Rattle.columns.proofs.columns_of.Statement.{statement}
+use Rattle.columns.proofs.columns_of.Tie as tie
 
 returns : tie.Need-returns
 unfolding keyWord

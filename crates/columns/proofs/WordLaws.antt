@@ -7,7 +7,7 @@ use native.Mathlib.Omega.{arith}
 use Rattle.field.specs.Field.{_⊕_}
 use Rattle.field.specs.Mixing.{word}
 use Rattle.aes_standard.specs.State.{at, state, byteOf}
-use Rattle.rounds.specs.Words.{Bytes, WordAt, turned, fourWords, fourSet}
+use Rattle.columns.specs.Words.{Bytes, WordAt, turned, fourWords, fourSet}
 use Rattle.aes_standard.proofs.WordBytes.{byteOf-lt}
 use Rattle.aes_standard.proofs.WordBytes.{byteOf-⊕}
 use Rattle.aes_standard.proofs.WordBytes.{byteOf-last}

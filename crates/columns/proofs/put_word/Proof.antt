@@ -1,10 +1,10 @@
--- `rounds::columns::put_word` meets its promise.
-use Rattle.rounds.proofs.WordLaws.{four-laid}
+-- `columns::put_word` meets its promise.
+use Rattle.columns.proofs.WordLaws.{four-laid}
 use lib.ListN.{length-set}
 use native.Mathlib.Omega.{arith}
 use borrow.Author.Needs.{needs}
-use Rattle.rounds.proofs.columns.put_word.Statement.{statement}
-use Rattle.rounds.proofs.columns.put_word.Tie as tie
+use Rattle.columns.proofs.put_word.Statement.{statement}
+use Rattle.columns.proofs.put_word.Tie as tie
 
 slice-write-b-2 : tie.Need-slice-write-b-2
 slice-write-b-2 c = simp length-set (omega arith)

@@ -5,7 +5,7 @@ ghost use lib.ListN.{length};
 ghost use Rattle.lists.specs.Parts.{putAt};
 ghost use Rattle.field.specs.Field.{_⊕_};
 ghost use Rattle.aes_standard.specs.State.{at, state, byteOf};
-ghost use Rattle.rounds.specs.Words.{WordAt, changed, Word, Loaded, turned, blockOf, fourSet};
+ghost use Rattle.columns.specs.Words.{WordAt, changed, Word, Loaded, turned, blockOf, fourSet};
 
 // The four columns of a state, the first row in the highest byte of each word.
 pub struct Columns {

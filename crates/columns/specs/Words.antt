@@ -5,7 +5,7 @@ use Prim.Native.Nat.{ℕ, _+_, _-_, _*_, _%_}
 use lib.ListN.{set}
 use Rattle.field.specs.Field.{_⊕_}
 use Rattle.field.specs.Mixing.{word}
-use Rattle.rounds.specs.declared.columns.Columns.{Columns}
+use Rattle.columns.specs.declared.Columns.{Columns}
 use Rattle.aes_standard.specs.State.{at, state, byteOf}
 use Rattle.aes_standard.specs.Schedule.{subWord, rotWord, keyWord}
 

@@ -1,9 +1,9 @@
--- `rounds::columns::turn_two` meets its promise.
-use Rattle.rounds.proofs.WordLaws.{turned-two}
+-- `columns::turn_two` meets its promise.
+use Rattle.columns.proofs.WordLaws.{turned-two}
 use native.Mathlib.Omega.{arith}
 use borrow.Author.Needs.{needs}
-use Rattle.rounds.proofs.columns.turn_two.Statement.{statement}
-use Rattle.rounds.proofs.columns.turn_two.Tie as tie
+use Rattle.columns.proofs.turn_two.Statement.{statement}
+use Rattle.columns.proofs.turn_two.Tie as tie
 
 returns : tie.Need-returns
 returns c = turned-two (c .args .x) (omega arith)

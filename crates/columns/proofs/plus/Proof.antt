@@ -1,8 +1,8 @@
--- `rounds::columns::plus` meets its promise.
+-- `columns::plus` meets its promise.
 use Rattle.aes_standard.proofs.WordBytes.{byteOf-⊕}
 use Rattle.field.specs.Field.{_⊕_}
-use Rattle.rounds.proofs.columns.plus.Statement.{statement}
-use Rattle.rounds.proofs.columns.plus.Tie as tie
+use Rattle.columns.proofs.plus.Statement.{statement}
+use Rattle.columns.proofs.plus.Tie as tie
 
 returns : tie.Need-returns
 unfolding _⊕_

@@ -11,7 +11,7 @@ use Rattle.lists.specs.Parts.{partAt, putAt}
 use Rattle.lists.proofs.PartLaws.{length-part}
 use Rattle.aes_standard.specs.State.{at, state, byteOf}
 use Rattle.aes_standard.proofs.StateLaws.{tabulate, tabulated}
-use Rattle.rounds.specs.Words.{fourWords, fourSet}
+use Rattle.columns.specs.Words.{fourWords, fourSet}
 
 tabulate-same : (n : ℕ) (f g : ℕ → ℕ) → ((i : ℕ) → i < n → f i ≡ g i)
     → tabulate n f ≡ tabulate n g

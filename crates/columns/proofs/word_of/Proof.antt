@@ -1,10 +1,10 @@
--- `rounds::columns::word_of` meets its promise.
+-- `columns::word_of` meets its promise.
 use Rattle.field.specs.Mixing.{word}
 use Rattle.aes_standard.specs.State.{byteOf}
 use native.Mathlib.Omega.{arith}
 use borrow.Author.Needs.{needs}
-use Rattle.rounds.proofs.columns.word_of.Statement.{statement}
-use Rattle.rounds.proofs.columns.word_of.Tie as tie
+use Rattle.columns.proofs.word_of.Statement.{statement}
+use Rattle.columns.proofs.word_of.Tie as tie
 
 returns : tie.Need-returns
 unfolding byteOf word

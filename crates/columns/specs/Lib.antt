@@ -1,0 +1,2 @@
+-- A state in four words.
+pub mod Words
