@@ -75,10 +75,10 @@ drk-sized hi lo =
     }
 
 -- such a start there is: what `registers::record::cleared`, and so every reboot and power cut, leaves of any record
-pub cleared-after-reset : {was : r.Processor} {key : List ℕ} (p : Processor)
+pub cleared-after-reset : (was : r.Processor) {key : List ℕ} (p : Processor)
     → Holds (reset documentBoard was) key (p .r) (p .special)
     → AfterReset p
-cleared-after-reset {was = was} p h = record { was = was; cleared = h .record′ }
+cleared-after-reset was p h = record { was = was; cleared = h .record′ }
 
 pub a-cache-changes-the-counts-and-nothing-else : Demand3AtTheCode
 unfolding asItStands
