@@ -1,5 +1,5 @@
 // The board that a file says: its sizes, keys, registers at the start, and how many instructions its sheets run.
-use board_text::errors;
+use board_numbers::errors;
 use board_text::names;
 use board_text::statement;
 use board_text::statement::Statement;

@@ -1,10 +1,10 @@
 // One line of a board file: its first word's number, and the numbers behind it.
-use crate::errors;
 use crate::names;
-use crate::number;
-use crate::number::Number;
 use crate::shape;
 use crate::shape::Shape;
+use board_numbers::errors;
+use board_numbers::number;
+use board_numbers::number::Number;
 ghost use mathlib.Core.Path.{_≡_};
 ghost use Prim.Native.Nat.{_+_, _≤_, _<_};
 ghost use lib.ListN.{length};

@@ -1,6 +1,5 @@
 // The lines of a board file laid into memory, and those for protected use signed or sealed at the depot.
-use crate::coding;
-use board_text::errors;
+use board_numbers::errors;
 use board_text::names;
 use board_text::statement;
 use board_text::statement::Statement;

@@ -1,5 +1,5 @@
 // What the program is asked for on its command line.
-use board_text::number;
+use board_numbers::number;
 
 // The file's place among the arguments (0: none yet), what is asked for, the line to drop, and whether an argument is
 // wrong.

@@ -1,10 +1,10 @@
 -- `digit` gives the value of each letter, range by range.
 use borrow.Author.Tests.{lt-ltb, le-ltb, lt-leb, le-leb}
 use native.Mathlib.Omega.{arith}
-use Rattle.board_text.specs.Digits.{digitOf}
+use Rattle.board_numbers.specs.Digits.{digitOf}
 use borrow.Author.Needs.{needs}
-use Rattle.board_text.proofs.number.digit.Statement.{statement}
-use Rattle.board_text.proofs.number.digit.Tie as tie
+use Rattle.board_numbers.proofs.number.digit.Statement.{statement}
+use Rattle.board_numbers.proofs.number.digit.Tie as tie
 
 returns : tie.Need-returns
 unfolding digitOf

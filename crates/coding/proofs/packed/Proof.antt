@@ -1,10 +1,10 @@
 -- `packed` puts the fields side by side.
 use Prim.Native.Nat.{_%_}
 use native.Mathlib.Omega.{arith}
-use Rattle.laying.proofs.WordLaws.{side-by-side}
+use Rattle.coding.proofs.WordLaws.{side-by-side}
 use borrow.Author.Needs.{needs}
-use Rattle.laying.proofs.coding.packed.Statement.{statement}
-use Rattle.laying.proofs.coding.packed.Tie as tie
+use Rattle.coding.proofs.packed.Statement.{statement}
+use Rattle.coding.proofs.packed.Tie as tie
 
 returns : tie.Need-returns
 returns c = let a = c .args in side-by-side (a .op % 64) (a .a % 32) (a .b % 32) (a .low % 65536) (omega arith)

@@ -3,7 +3,7 @@ use crate::errors;
 ghost use mathlib.Core.Path.{_≡_};
 ghost use mathlib.Core.Bool.{false, true};
 ghost use Prim.Native.Nat.{_-_, _%_, _^_, _<_, _≤_};
-ghost use Rattle.board_text.specs.Digits.{digitOf, valueOf, zeroOf, numberOf};
+ghost use Rattle.board_numbers.specs.Digits.{digitOf, valueOf, zeroOf, numberOf};
 ghost use lib.ListN.{length};
 
 // A number that was read: its value, whether it is a register's, and an error or 0.

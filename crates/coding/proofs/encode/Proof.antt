@@ -1,8 +1,8 @@
 -- `encode` makes a word of the opcode, whose register a is the first operand, arm by arm.
-use Rattle.laying.proofs.WordLaws.{named}
+use Rattle.coding.proofs.WordLaws.{named}
 use borrow.Author.Needs.{needs}
-use Rattle.laying.proofs.coding.encode.Statement.{statement}
-use Rattle.laying.proofs.coding.encode.Tie as tie
+use Rattle.coding.proofs.encode.Statement.{statement}
+use Rattle.coding.proofs.encode.Tie as tie
 
 returns : tie.Need-returns
 returns c = λ e. named (c .with-selector .ensures e)

@@ -7,7 +7,7 @@ use native.Mathlib.Numerals.{add-one}
 use native.Mathlib.Omega.{arith}
 use lib.ListN.{length, length-drop, getD, take, drop, drop-of-length-le}
 use lib.Seq.{drop-cons, take-all}
-use Rattle.board_text.specs.Digits.{digitOf, valueFrom}
+use Rattle.board_numbers.specs.Digits.{digitOf, valueFrom}
 
 -- what a quotient leaves room for
 pub room : (base most v : ℕ) → 0 < base → v ≤ most / base → v * base ≤ most

@@ -1,11 +1,11 @@
 -- `read` gives the number of a word, by its first letters.
 use borrow.Author.Tests.{lt-ltb, le-ltb, eq-eqb, ne-eqb}
 use mathlib.Core.Path.{_∙_, ap}
-use Rattle.board_text.specs.Digits.{valueOf, numberOf}
-use Rattle.board_text.proofs.DigitLaws.{tail-is}
+use Rattle.board_numbers.specs.Digits.{valueOf, numberOf}
+use Rattle.board_numbers.proofs.DigitLaws.{tail-is}
 use borrow.Author.Needs.{needs}
-use Rattle.board_text.proofs.number.read.Statement.{statement}
-use Rattle.board_text.proofs.number.read.Tie as tie
+use Rattle.board_numbers.proofs.number.read.Statement.{statement}
+use Rattle.board_numbers.proofs.number.read.Tie as tie
 
 returns : tie.Need-returns
 unfolding numberOf

@@ -2,7 +2,7 @@
 use Prim.Native.Nat.{ℕ, _+_, _*_, _<_}
 use native.Mathlib.Omega.{arith}
 use Rattle.instructions.specs.Fields.{opcode, fieldA, fieldB}
-use Rattle.laying.specs.Words.{Fields, Named}
+use Rattle.coding.specs.Words.{Fields, Named}
 
 pub side-by-side : (op a b low : ℕ) → op < 64 → a < 32 → b < 32 → low < 65536
     → Fields op a b low (op * 67108864 + a * 2097152 + b * 65536 + low)

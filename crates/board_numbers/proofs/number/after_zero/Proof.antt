@@ -1,11 +1,11 @@
 -- `after_zero` gives the number of a word that begins with 0, by its second letter.
 use borrow.Author.Tests.{eq-eqb, ne-eqb}
 use mathlib.Core.Path.{_∙_, ap}
-use Rattle.board_text.specs.Digits.{valueOf, zeroOf}
-use Rattle.board_text.proofs.DigitLaws.{tail-is}
+use Rattle.board_numbers.specs.Digits.{valueOf, zeroOf}
+use Rattle.board_numbers.proofs.DigitLaws.{tail-is}
 use borrow.Author.Needs.{needs}
-use Rattle.board_text.proofs.number.after_zero.Statement.{statement}
-use Rattle.board_text.proofs.number.after_zero.Tie as tie
+use Rattle.board_numbers.proofs.number.after_zero.Statement.{statement}
+use Rattle.board_numbers.proofs.number.after_zero.Tie as tie
 
 returns : tie.Need-returns
 unfolding zeroOf

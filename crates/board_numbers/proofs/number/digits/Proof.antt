@@ -3,11 +3,11 @@ use Prim.Native.Nat.{_≤_, _-_}
 use mathlib.Core.Path.{_≡_, _∙_, sym, refl}
 use native.Mathlib.Omega.{arith}
 use lib.ListN.{length, drop}
-use Rattle.board_text.specs.Digits.{valueOf, valueFrom}
-use Rattle.board_text.proofs.DigitLaws.{room, value-more, value-done}
+use Rattle.board_numbers.specs.Digits.{valueOf, valueFrom}
+use Rattle.board_numbers.proofs.DigitLaws.{room, value-more, value-done}
 use borrow.Author.Needs.{needs}
-use Rattle.board_text.proofs.number.digits.Statement.{statement}
-use Rattle.board_text.proofs.number.digits.Tie as tie
+use Rattle.board_numbers.proofs.number.digits.Statement.{statement}
+use Rattle.board_numbers.proofs.number.digits.Tie as tie
 
 abbrev Inv-loop : tie.InvT-loop
 Inv-loop text base value₀ i₀ value i = (i ≤ length text)

@@ -1,8 +1,8 @@
 // Instruction words made of an opcode and its operands.
-use board_text::errors;
+use board_numbers::errors;
 ghost use mathlib.Core.Path.{_≡_};
 ghost use Prim.Native.Nat.{_%_};
-ghost use Rattle.laying.specs.Words.{Fields, Named};
+ghost use Rattle.coding.specs.Words.{Fields, Named};
 
 // A word of 32 bits, and an error or 0.
 pub struct Coded {
@@ -49,7 +49,7 @@ fn with_selector(op: u64, a: u64, b: u64, sel: u64) -> Coded
 }
 
 // The word of an opcode with its operands in the order in which a board file has them.
-pub(crate) fn encode(op: usize, x: u64, y: u64, z: u64) -> Coded
+pub fn encode(op: usize, x: u64, y: u64, z: u64) -> Coded
     ensures { λ r. ⌜ (r .error ≡ 0 → Named (op % 64) (x % 32) (r .word)) ⌝ }
 {
     let code = op as u64;
