@@ -1,4 +1,6 @@
 // AES-128 (FIPS 197): a key schedule for many blocks, a block enciphered or deciphered, and whole blocks in a chain.
+#![tactic(auto)]
+
 ghost use Rattle.std.specs.Prelude.{◌≡◌};
 ghost use Rattle.aes_standard.specs.Cipher.{cipher, inv_cipher};
 ghost use Rattle.aes_standard.specs.Schedule.{key_expansion};

@@ -10,7 +10,7 @@ use machine::answer::Report;
 use registers::record::Processor;
 
 // How many records are to be filled, and the report.
-#[derive(Drop)]
+#[derive(Clone, Copy)]
 pub struct Plan {
     pub count: usize,
     pub report: Report,

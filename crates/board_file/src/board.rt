@@ -8,7 +8,7 @@ use board_text::{names, statement};
 
 // A board; error is 0, or a number of `errors` with the line where it was met. said[k]: statement k was met; said[32 +
 // i]: register i was.
-#[derive(Drop)]
+#[derive(Clone, Copy)]
 pub struct Board {
     pub memory: usize,
     pub slots: usize,

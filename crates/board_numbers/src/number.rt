@@ -5,7 +5,7 @@ ghost use Rattle.board_numbers.specs.Digits.{digit_of, value_of, zero_of, number
 use crate::errors;
 
 // A number that was read: its value, whether it is a register's, and an error or 0.
-#[derive(Drop)]
+#[derive(Clone, Copy)]
 pub struct Number {
     pub value: u64,
     pub is_register: bool,

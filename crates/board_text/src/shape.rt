@@ -3,7 +3,7 @@ use crate::names;
 
 // At least and at most so many numbers; of the first ones, bit i of registers says that number i is a register; from
 // number `words` on each is a word of 32 bits.
-#[derive(Drop)]
+#[derive(Clone, Copy)]
 pub struct Shape {
     pub least: usize,
     pub most: usize,

@@ -8,7 +8,7 @@ use board_numbers::{errors, number};
 
 // A statement: its kind, how many numbers stand behind its word, which of them are registers, an error or 0, and where
 // the next line begins.
-#[derive(Drop)]
+#[derive(Clone, Copy)]
 pub struct Statement {
     pub kind: usize,
     pub count: usize,
@@ -19,7 +19,7 @@ pub struct Statement {
 }
 
 // A word of a line: from where to where it stands; empty where there is none.
-#[derive(Drop)]
+#[derive(Clone, Copy)]
 struct Span {
     from: usize,
     to: usize,

@@ -1,4 +1,6 @@
 // The bus: a line read or written, a MAC entry written; each first evicts that line.
+#![tactic(auto)]
+
 ghost use Rattle.std.specs.Prelude.{◌≡◌, [], ◌+◌, ◌<◌, ◌≤◌, ◌/◌, length};
 ghost use Rattle.std.proofs.Math.Option.{some};
 ghost use Rattle.lists.specs.Parts.{put_at};

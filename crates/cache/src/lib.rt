@@ -1,4 +1,6 @@
 // The cache on lent buffers: lines are evicted from and filled into slots, as the cached memory of the model does it.
+#![tactic(auto)]
+
 mod parts;
 pub mod slots;
 pub mod whole;

@@ -16,7 +16,7 @@ use directory::{number, place};
 
 // Lines filled, dirty lines written, MACs checked, MACs made for lines.
 #[repr(C)]
-#[derive(Drop)]
+#[derive(Clone, Copy)]
 pub struct Counts {
     pub filled: u64,
     pub written: u64,
@@ -25,7 +25,7 @@ pub struct Counts {
 }
 
 // Whether a line is there, and what making it ready counted.
-#[derive(Drop)]
+#[derive(Clone, Copy)]
 pub struct Ready {
     pub ok: bool,
     pub counts: Counts,

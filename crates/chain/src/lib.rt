@@ -1,4 +1,6 @@
 // Whole blocks in a chain: CBC encryption and decryption in place, and the last block of a chain.
+#![tactic(auto)]
+
 ghost use Rattle.std.specs.Prelude.{◌≡◌, ◌+◌, ◌≤◌, length};
 ghost use Rattle.field.specs.Field.{inv_sub_byte};
 ghost use Rattle.field.specs.Mixing.{mixed_entry, unmixed_entry};

@@ -1,5 +1,7 @@
 // The ciphers for programs in C: `aes`, `chain`, `cmac` and `sealing` under plain names that begin with hq_, for tests
 // and benchmarks beside other ciphers.
+#![tactic(auto)]
+
 ghost use Rattle.std.specs.Prelude.{◌≡◌};
 ghost use Rattle.aes_standard.specs.Cipher.{cipher, inv_cipher};
 ghost use Rattle.aes_standard.specs.Schedule.{key_expansion};

@@ -1,4 +1,6 @@
 // CMAC with AES-128 (SP 800-38B, RFC 4493): the MAC of a message of any length, as the caller lends it.
+#![tactic(auto)]
+
 ghost use Rattle.std.specs.Prelude.{◌≡◌, ◌≤◌, length};
 ghost use Rattle.aes_standard.specs.State.{plus};
 ghost use Rattle.cmac.specs.Subkeys.{Shifted, doubled, subkey1, subkey2};

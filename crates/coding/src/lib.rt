@@ -1,11 +1,13 @@
 // Instruction words made of an opcode and its operands.
+#![tactic(auto)]
+
 ghost use Rattle.std.specs.Prelude.{◌≡◌, ◌%◌};
 ghost use Rattle.coding.specs.Words.{Fields, Named};
 
 use board_numbers::errors;
 
 // A word of 32 bits, and an error or 0.
-#[derive(Drop)]
+#[derive(Clone, Copy)]
 pub struct Coded {
     pub word: u64,
     pub error: u32,

@@ -1,4 +1,6 @@
 // A state as four words, one for each column, and the ways between words and bytes.
+#![tactic(auto)]
+
 ghost use Rattle.std.specs.Prelude.{◌≡◌, ◌+◌, ◌≤◌, length};
 ghost use Rattle.lists.specs.Parts.{put_at};
 ghost use Rattle.field.specs.Field.{◌⊕◌};
@@ -6,7 +8,7 @@ ghost use Rattle.aes_standard.specs.State.{at, state, byte_of};
 ghost use Rattle.columns.specs.Words.{WordAt, changed, Word, Loaded, turned, block_of, four_set};
 
 // The four columns of a state, the first row in the highest byte of each word.
-#[derive(Drop)]
+#[derive(Clone, Copy)]
 pub struct Columns {
     pub a: u32,
     pub b: u32,

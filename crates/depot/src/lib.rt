@@ -3,6 +3,8 @@
 //
 // Each answers 0 or the lowest refusal that applies, 106, 107 or 109 as document 01 numbers them; a refusal writes
 // nothing.
+#![tactic(auto)]
+
 ghost use Rattle.std.specs.Prelude.{◌≡◌, []};
 ghost use Rattle.sealing.specs.Lines.{drk_of};
 ghost use Rattle.ciphers.specs.Cipher.{aes_cipher};

@@ -1,5 +1,7 @@
 // The checks at the entry of a machine call: refusals 101 to 105 of what is lent, and 106, 107, 108 and 110 of the call
 // itself.
+#![tactic(auto)]
+
 pub mod call;
 mod scan;
 

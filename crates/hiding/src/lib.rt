@@ -1,4 +1,6 @@
 // The hash of the registers and the key stream that hides them (document 01, 'Suspend').
+#![tactic(auto)]
+
 ghost use Rattle.std.specs.Prelude.{◌≡◌, ◌∷◌, drop};
 ghost use Rattle.lists.specs.Words.{words_bytes, xored_behind};
 ghost use Rattle.sealing.specs.Lines.{drk_of, mac_of};

@@ -14,7 +14,7 @@ use registers::record::Processor;
 
 // A record of the row: used (1) or empty (0), line, tag, dirty (1) or clean (0).
 #[repr(C)]
-#[derive(Drop)]
+#[derive(Clone, Copy)]
 pub struct LineRecord {
     pub used: u32,
     pub line: u32,

@@ -1,2 +1,4 @@
 // The lines of a board file, laid into lent memory, signed and sealed.
+#![tactic(auto)]
+
 pub mod lines;

@@ -6,7 +6,7 @@ use board_text::statement::Statement;
 use board_text::{names, statement};
 
 // Where the next word goes: up to `end`, so many bytes at a time (0: no line is open); an error or 0.
-#[derive(Drop)]
+#[derive(Clone, Copy)]
 struct Place {
     at: usize,
     end: usize,
@@ -15,7 +15,7 @@ struct Place {
 }
 
 // What a laying came to: 0, or a number of `errors` with the line where it was met.
-#[derive(Drop)]
+#[derive(Clone, Copy)]
 pub struct Laid {
     pub error: u32,
     pub line: u64,

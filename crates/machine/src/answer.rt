@@ -4,7 +4,7 @@ use registers::record::Processor;
 
 // The answer, run's steps and the four counts.
 #[repr(C)]
-#[derive(Drop)]
+#[derive(Clone, Copy)]
 pub struct Report {
     pub answer: u64,
     pub steps: u64,
@@ -13,7 +13,7 @@ pub struct Report {
 
 // The record after the call, and its report.
 #[repr(C)]
-#[derive(Drop)]
+#[derive(Clone, Copy)]
 pub struct Answer {
     pub processor: Processor,
     pub report: Report,

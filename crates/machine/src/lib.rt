@@ -1,4 +1,6 @@
 // The machine: memory phases, one instruction, and run.
+#![tactic(auto)]
+
 pub mod answer;
 pub mod phase;
 pub mod run;

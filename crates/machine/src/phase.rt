@@ -20,7 +20,7 @@ use directory::{number, place};
 use registers::decide::Wanted;
 
 // What came of it: did the line's check fail, the number that stood there, and what was counted.
-#[derive(Drop)]
+#[derive(Clone, Copy)]
 pub struct Found {
     pub failed: bool,
     pub number: u64,

@@ -11,7 +11,7 @@ use cache::slots::Counts;
 use registers::record::Special;
 
 // The answer, the steps that were done, the registers after them but R0 to R31, and what was counted.
-#[derive(Drop)]
+#[derive(Clone, Copy)]
 pub struct Ran {
     pub answer: u64,
     pub steps: u64,

@@ -11,7 +11,7 @@ use registers::record::Special;
 use registers::{decide, faults, finish};
 
 // The fault of a step, 0 for none, the registers after it but R0 to R31, and what was counted.
-#[derive(Drop)]
+#[derive(Clone, Copy)]
 pub struct Stepped {
     pub fault: u64,
     pub special: Special,

@@ -1,5 +1,7 @@
 // The meter: reads a board file and prints a cold and a warm sheet of its run, as text or CSV, for one cache or for
 // several sizes, or the answers of its script.
+#![tactic(auto)]
+
 mod script;
 mod sizes;
 

@@ -1,9 +1,11 @@
 // What the program is asked for on its command line.
+#![tactic(auto)]
+
 use board_numbers::number;
 
 // The file's place among the arguments (0: none yet), what is asked for, the line to drop, and whether an argument is
 // wrong.
-#[derive(Drop)]
+#[derive(Clone, Copy)]
 pub struct Options {
     pub path: usize,
     pub csv: bool,

@@ -1,4 +1,6 @@
 // A board's runs, each on memory laid anew from its file.
+#![tactic(auto)]
+
 ghost use Rattle.std.specs.Prelude.{◌≤◌};
 ghost use Rattle.board_file.specs.Boards.{Within};
 
@@ -14,7 +16,7 @@ use sheets::running::Sheets;
 use sheets::sheet::Sheet;
 
 // A run with the cache kept, behind a line dropped or not.
-#[derive(Drop)]
+#[derive(Clone, Copy)]
 pub struct Later {
     pub dropped: Report,
     pub sheet: Sheet,

@@ -14,7 +14,7 @@ use crate::record::Special;
 use crate::{faults, fields};
 
 // The fault that is known, and what is wanted: kind 0 nothing, 1 a word, 2 another key.
-#[derive(Drop)]
+#[derive(Clone, Copy)]
 pub struct Wanted {
     pub fault: u64,
     pub kind: u32,

@@ -1,4 +1,6 @@
 // The processor's registers: fields, faults and the effect of each instruction, on plain values.
+#![tactic(auto)]
+
 pub mod decide;
 pub mod execute;
 pub mod faults;

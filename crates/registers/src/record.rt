@@ -8,7 +8,7 @@ ghost use Rattle.registers.specs.Effects.{Holds};
 // pc, EPC, cause, PID, CID, CEM_Mode, DRK_Lock, DRK, SRH, CEM_Buffer, Interrupt_Hash, Interrupt_Address, saved PID
 // and saved CID.
 #[repr(C)]
-#[derive(Drop)]
+#[derive(Clone, Copy)]
 pub struct Special {
     pub pc: u64,
     pub epc: u64,
@@ -35,7 +35,7 @@ pub struct Special {
 
 // The whole record, with R0 to R31.
 #[repr(C)]
-#[derive(Drop)]
+#[derive(Clone, Copy)]
 pub struct Processor {
     pub r: [u64; 32],
     pub special: Special,

@@ -10,7 +10,7 @@ use crate::fields;
 use crate::record::Special;
 
 // The fault of a step, 0 for none, and the registers after it.
-#[derive(Drop)]
+#[derive(Clone, Copy)]
 pub struct Ended {
     pub fault: u64,
     pub special: Special,

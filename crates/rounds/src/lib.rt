@@ -1,5 +1,7 @@
 // The rounds of the cipher on columns, through tables that the caller lends; the inverse cipher takes the same rounds
 // by tables of its own.
+#![tactic(auto)]
+
 ghost use Rattle.std.specs.Prelude.{◌≡◌, ◌≤◌};
 ghost use Rattle.field.specs.Field.{◌⊕◌};
 ghost use Rattle.aes_standard.specs.State.{add_round_key};

@@ -1,4 +1,6 @@
 // The key schedule, and the round keys of the equivalent inverse cipher.
+#![tactic(auto)]
+
 ghost use Rattle.std.specs.Prelude.{◌≡◌, ◌*◌, ◌≤◌};
 ghost use Rattle.field.specs.Field.{sub_byte};
 ghost use Rattle.field.specs.Mixing.{unmixed_entry};

@@ -1,4 +1,6 @@
 // The operations of a script, each by its statement.
+#![tactic(auto)]
+
 use board_text::names;
 use board_text::statement::Statement;
 use host::answer::Answer;

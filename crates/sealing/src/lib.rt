@@ -1,4 +1,6 @@
 // Protected lines: their MACs and sealed data lines; a DRK is two words, the high one first.
+#![tactic(auto)]
+
 ghost use Rattle.std.specs.Prelude.{◌≡◌, ◌++◌, length};
 ghost use Rattle.lists.specs.Bytes.{same};
 ghost use Rattle.lists.specs.Words.{big_bytes};

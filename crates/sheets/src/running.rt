@@ -14,7 +14,7 @@ use registers::record;
 use registers::record::Processor;
 
 // Both sheets, and the record that the warm run left.
-#[derive(Drop)]
+#[derive(Clone, Copy)]
 pub struct Sheets {
     pub cold: Sheet,
     pub warm: Sheet,
@@ -22,7 +22,7 @@ pub struct Sheets {
 }
 
 // The sheet of one run more, and the record that it left.
-#[derive(Drop)]
+#[derive(Clone, Copy)]
 pub struct Kept {
     pub sheet: Sheet,
     pub processor: Processor,

@@ -6,7 +6,7 @@ ghost use Rattle.sheets.specs.Figures.{KindsOf, SameNumbers, FilledIn};
 use machine::answer::Report;
 
 // Lines filled and dirty lines written, of ordinary and of protected lines.
-#[derive(Drop)]
+#[derive(Clone, Copy)]
 pub struct Kinds {
     pub ordinaryfilled: u64,
     pub protectedfilled: u64,
@@ -15,7 +15,7 @@ pub struct Kinds {
 }
 
 // A sheet.
-#[derive(Drop)]
+#[derive(Clone, Copy)]
 pub struct Sheet {
     pub warm: bool,
     pub report: Report,

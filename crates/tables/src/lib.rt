@@ -3,6 +3,8 @@
 // A function that names a constant array copies it, so each table is handed out by value, once for a long piece of
 // work, and lent on by `&`. The last byte of each entry of `mixed` is SubBytes, so that the cipher needs no second
 // table; the inverse S-box is one of words, so that both ciphers end in the same way.
+#![tactic(auto)]
+
 mod mixing;
 mod substitution;
 

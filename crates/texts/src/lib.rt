@@ -1,4 +1,6 @@
 // Numbers as bytes, high byte first, and the text of which a line's MAC is made.
+#![tactic(auto)]
+
 ghost use Rattle.std.specs.Prelude.{◌≡◌, ◌∷◌, ◌++◌, ◌+◌, ◌≤◌, ◌<◌, length};
 ghost use Rattle.lists.specs.Parts.{part_at, put_at};
 ghost use Rattle.lists.specs.Words.{big, big_bytes};

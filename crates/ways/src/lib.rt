@@ -1,4 +1,6 @@
 // All rounds of the cipher, or of its inverse, on columns.
+#![tactic(auto)]
+
 ghost use Rattle.rounds.specs.Ways.{Through};
 ghost use Rattle.columns.specs.Words.{block_of};
 

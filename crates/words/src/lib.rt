@@ -1,4 +1,6 @@
 // Words in lent bytes, the lowest byte first: a word of two halves is its low half and then its high half.
+#![tactic(auto)]
+
 ghost use Rattle.std.specs.Prelude.{◌≡◌, ◌+◌, ◌%◌, ◌<◌, ◌≤◌, length};
 ghost use Rattle.lists.specs.Parts.{part_at, put_at};
 ghost use Rattle.lists.specs.Words.{little, little_bytes};
