@@ -1,0 +1,9 @@
+-- A word of eight bytes is its two halves.
+use Rattle.std.proofs.Common.{arith}
+use Rattle.words.proofs.Halves.{little_halves}
+use Rattle.words.proofs.read_eight.Goals as goal
+
+pub returns : goal.returns
+returns c =
+    let e = little_halves c.args.at 4 4 c.args.s.now (omega arith) in
+    omega (arith, e)
