@@ -1,7 +1,11 @@
 // What the program is asked for on its command line.
 #![tactic(auto)]
 
+ghost use Rattle.std.specs.Prelude.{◌≤◌, IfSome};
+
 use board_numbers::number;
+use std::env::FillError;
+use std::rt::Env;
 
 // The file's place among the arguments (0: none yet), what is asked for, the line to drop, and whether an argument is
 // wrong.
@@ -53,23 +57,23 @@ fn with_line(o: Options, word: &[u8]) -> Options {
 // With an argument that begins with a minus sign.
 fn with_switch(o: Options, word: &[u8]) -> Options {
     let mut q = o;
-    if check::same(word, b"--csv") {
+    if word == b"--csv".as_slice() {
         q.csv = true;
         return q;
     }
-    if check::same(word, b"--sizes") {
+    if word == b"--sizes".as_slice() {
         q.sizes = true;
         return q;
     }
-    if check::same(word, b"--script") {
+    if word == b"--script".as_slice() {
         q.script = true;
         return q;
     }
-    if check::same(word, b"--keep") {
+    if word == b"--keep".as_slice() {
         q.keep = true;
         return q;
     }
-    if check::same(word, b"--drop") {
+    if word == b"--drop".as_slice() {
         q.drop = true;
         q.expects = true;
         return q;
@@ -101,25 +105,36 @@ fn with_word(o: Options, word: &[u8], i: usize) -> Options {
     with_path(o, i)
 }
 
-// With argument i, as the system hands it over.
-fn with_argument(o: Options, i: usize) -> Options {
-    let mut word = io::buffer();
-    let n = os::arg(i, &mut word);
-    with_word(o, &word[..n], i)
+// The length of argument i, which the system puts at the start of a buffer: 0 where it is longer than that, and none
+// where there is no such argument.
+fn argument(env: &impl Env, i: usize, word: &mut [u8; 4096]) -> Option<usize>
+    ensures { IfSome result (λ n. n ≤ 4096) }
+{
+    match env.arg(i, word) {
+        Ok(n) => Some(n),
+        Err(FillError::TooLong) => Some(0),
+        Err(FillError::NotPresent) => None,
+    }
+}
+
+// With argument i, as the system hands it over; none where there is no such argument.
+fn with_argument(env: &impl Env, o: Options, i: usize) -> Option<Options> {
+    let mut word = [0u8; 4096];
+    let n = argument(env, i, &mut word)?;
+    Some(with_word(o, &word[..n], i))
 }
 
 // What all arguments ask for; a file is needed, and a line behind --drop.
-pub fn read() -> Options {
-    let n = os::arg_count();
+pub fn read(env: &impl Env) -> Options {
     let mut o = none();
-    let mut i: usize = 1;
-    while i < n {
-        let more = with_argument(o, i);
-        o = more;
+    for i in 1..usize::MAX {
+        match with_argument(env, o, i) {
+            Some(more) => o = more,
+            None => break,
+        }
         if o.wrong {
             return o;
         }
-        i += 1;
     }
     if o.path == 0 {
         return refused(o);
