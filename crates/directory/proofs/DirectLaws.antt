@@ -1,18 +1,16 @@
 -- The direct-mapped placement satisfies what a placement must satisfy.
-use Prim.Native.Nat.{ℕ, ◌/◌, ◌%◌, ◌<◌}
+use Prim.Native.Nat.{ℕ, ◌%◌, ◌<◌}
 use native.Mathlib.Nat.{mod-lt}
 use native.Mathlib.Omega.{arith}
 use mathlib.Core.Path.{◌≡◌, refl, sym}
-use mathlib.Core.Bool.{true, false, ◌&&◌, ◌||◌, not, false≢true}
+use mathlib.Core.Bool.{true, false}
 use mathlib.Core.List.{List}
 use lib.ListN.{length, get_or, set, length-set}
 use lib.Seq.{get_or-set_same, get_or-set_other}
-use lib.Dec.{eqb, leb, ltb}
-use borrow.Author.Tests.{eqb-true}
-use Rattle.lists.proofs.Cases.{by-eq, by_test, both_hold}
+use Rattle.lists.proofs.Cases.{by-eq}
 use Rattle.model.specs.Placement.{holding}
 use Rattle.model.specs.PlacementLaws.{PlacementLaws}
-use Rattle.directory.specs.Numbers.{used_of, dirty_of, line_of, entry_of, number_of, is_number}
+use Rattle.directory.specs.Numbers.{used_of, dirty_of, entry_of, number_of}
 use Rattle.directory.specs.Direct.{direct, fine, OrderlyDirect}
 use Rattle.directory.proofs.NumberLaws.{entry-number, Right, fine-used, fine-unused, zero_fine, number-fine}
 

@@ -14,7 +14,7 @@ use Rattle.model.specs.Cached.{serves, holds}
 use Rattle.model.proofs.LineLaws.{same_tag_refl}
 use Rattle.directory.specs.Numbers.{used_of, tag_of, dirty_of, line_of, entry_of, number_of, is_number}
 use Rattle.directory.specs.Direct.{fine}
-use Rattle.directory.proofs.TagLaws.{named_code, number-named, named-number, number-le, same_tag_false}
+use Rattle.directory.proofs.TagLaws.{number-named, named-number, number-le, same_tag_false}
 
 -- the number of line n under tag t
 abbrev packed : ℕ → ℕ → ℕ → ℕ
