@@ -1,5 +1,5 @@
 -- Laws of digits and of the numbers that they say.
-use Rattle.std.proofs.Common.{◌≡◌, ℕ, suc, ◌+◌, ◌-◌, ◌*◌, ◌/◌, ◌<◌, ◌≤◌, List, [], ◌∷◌, length, get_or, take, drop, refl, le-div_iff_mul-le, add-one, arith, length-drop, drop_of_length-le, take_all, drop-cons}
+use Rattle.std.proofs.Common.{◌≡◌, ℕ, ◌+◌, ◌-◌, ◌*◌, ◌/◌, ◌<◌, ◌≤◌, List, length, get_or, take, drop, le-div_iff_mul-le, add-one, arith, length-drop, drop_of_length-le, take_all, drop-cons}
 use Rattle.board_numbers.specs.Digits.{digit_of, value_from}
 
 -- what a quotient leaves room for
