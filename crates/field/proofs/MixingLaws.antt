@@ -1,6 +1,6 @@
 -- MixColumns and InvMixColumns undo each other on a column of bytes: one argument over the two matrices' rows, and
 -- tests at the powers of two.
-use mathlib.Core.Path.{◌≡◌, refl, sym, ap, ap₂, ◌∙◌}
+use mathlib.Core.Path.{◌≡◌, sym, ap, ap₂, ◌∙◌}
 use Prim.Native.Nat.{ℕ, ◌<◌}
 use Rattle.field.specs.Field.{◌⊕◌, xtimes, product_by, ◌•◌}
 use Rattle.field.proofs.Xor.{⊕_comm, ⊕_assoc, ⊕_swap, ⊕_zero}

@@ -1,7 +1,7 @@
 -- The laws of the product: it goes over sums, and keeps bytes bytes.
-use mathlib.Core.Path.{◌≡◌, refl, sym, ap, ap₂, ◌∙◌}
-use Prim.Native.Nat.{ℕ, zero, suc, ◌+◌, ◌*◌, ◌/◌, ◌%◌, ◌^◌, ◌<◌}
-use native.Mathlib.Nat.{zero-mul, one-mul, mul_comm}
+use mathlib.Core.Path.{◌≡◌, sym, ap, ap₂, ◌∙◌}
+use Prim.Native.Nat.{ℕ, zero, suc, ◌*◌, ◌/◌, ◌%◌, ◌^◌, ◌<◌}
+use native.Mathlib.Nat.{zero-mul, one-mul}
 use native.Mathlib.Omega.{arith}
 use Rattle.field.specs.Field.{◌⊕◌, xtimes, product_by, ◌•◌}
 use Rattle.field.proofs.Xor.{⊕_swap, ⊕_double, ⊕-mod, ⊕-div, ⊕-lt, ⊕_zero, ⊕_self, zero_⊕}

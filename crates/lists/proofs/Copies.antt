@@ -1,11 +1,11 @@
 -- Bytes copied into a buffer or into a part of it, as code lends that part and gets it back.
-use mathlib.Core.Path.{◌≡◌, refl, sym, ap, ap₂, ◌∙◌}
+use mathlib.Core.Path.{◌≡◌, ap, ap₂, ◌∙◌}
 use mathlib.Core.List.{List, ◌++◌, append-nil}
 use Prim.Native.Nat.{ℕ, ◌+◌, ◌-◌, ◌≤◌}
 use native.Mathlib.Omega.{arith}
 use lib.ListN.{length, take, drop, length-drop, drop_of_length-le}
 use lib.Seq.{take-length, take_all, length-take-le}
-use Rattle.lists.specs.Parts.{part_at, put_at}
+use Rattle.lists.specs.Parts.{put_at}
 
 module _ {ℓ} {A : Type ℓ} where
   -- a copy over a whole buffer of the same length

@@ -1,15 +1,11 @@
 -- The S-box keeps its rule.
-use mathlib.Core.Path.{refl}
+use Rattle.std.proofs.Common.{refl}
 use Rattle.field.specs.Field.{◌⊕◌, digit, from_digits, affine, sub_byte}
 use Rattle.field.proofs.Inverses.{inverses}
 use Rattle.field.proofs.SBoxLaws.{listed_sub, listed_sub-sub_byte}
 use Rattle.field.proofs.Tables.{table-by}
-use Rattle.tables.proofs.sbox.Statement.{statement}
-use Rattle.tables.proofs.sbox.Tie as tie
+use Rattle.tables.proofs.sbox.Goals as goal
 
-returns : tie.Need-returns
+pub returns : goal.returns
 unfolding ◌⊕◌ digit from_digits affine inverses listed_sub
 returns c = table-by 256 listed_sub sub_byte listed_sub-sub_byte _ refl tt
-
-pub sbox-spec : {M : Type 1} → statement M
-sbox-spec = tie.close (tie.spec returns)
