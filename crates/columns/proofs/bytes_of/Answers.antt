@@ -1,0 +1,10 @@
+-- `columns::bytes_of` meets its promise.
+use Rattle.columns.proofs.StoreLaws.{put_at-all}
+use Rattle.columns.specs.Words.{block_of}
+use lib.ListN.{replicate}
+use mathlib.Core.Path.{refl, ◌∙◌}
+use Rattle.columns.proofs.bytes_of.Goals as goal
+
+pub returns : goal.returns
+returns c = c.store.ensures
+    ∙ put_at-all 16 (block_of c.args.x) (replicate 16 0) refl

@@ -1,0 +1,9 @@
+-- `columns::word_of` meets its promise.
+use Rattle.field.specs.Mixing.{word}
+use Rattle.aes_standard.specs.State.{byte_of}
+use native.Mathlib.Omega.{arith}
+use Rattle.columns.proofs.word_of.Goals as goal
+
+pub returns : goal.returns
+unfolding byte_of word
+returns c = omega arith
