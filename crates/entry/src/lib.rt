@@ -22,6 +22,7 @@ pub fn lent(mem: usize, macs: usize, cache: usize, dir: &[u32]) -> u32
 }
 
 // 101 where the memory has no size of document 01's, 102 where the MAC area is not M/4 bytes.
+#[tactic(auto, using(std::proofs::lemmas::Bool::Decides::nat_tests), unfolding(instructions::specs::Refusals::memory_flaws, instructions::specs::Refusals::size_fine))]
 fn memory(mem: usize, macs: usize) -> u32
     ensures { result ≡ first_of (memory_flaws mem macs) }
 {
