@@ -5,8 +5,8 @@ use board_text::names;
 use board_text::statement::Statement;
 use host::answer::Answer;
 use host::{dropping, restarts, running, transfers};
-use libc::STDOUT_FILENO;
 use registers::record::Processor;
+use std::io;
 
 // Byte k of a word.
 fn byte(word: u64, k: usize) -> u8 {
@@ -31,20 +31,13 @@ fn bytes(s: Statement) -> [u8; 64] {
     r
 }
 
-// A byte as a number.
-fn wide(x: u8) -> u64 {
-    x as u64
-}
-
 // Writes the bytes of a line, in the order in which they lie.
-fn write_line(line: &[u8]) {
-    io::write_all(STDOUT_FILENO, b"    bytes ");
-    let mut i: usize = 0;
-    while i < line.len() {
-        io::print_hex(STDOUT_FILENO, wide(line[i]), 2);
-        i += 1;
+fn write_line(to: &impl Print, line: &[u8]) -> io::Result<()> {
+    to.write_all(b"    bytes ")?;
+    for x in line {
+        print!(to; "{x:02x}")?;
     }
-    io::write_all(STDOUT_FILENO, b"\n");
+    to.write_all(b"\n")
 }
 
 // An operation on the whole board.
@@ -66,21 +59,23 @@ fn whole(
 
 // A line read over the bus, and its bytes written.
 fn bus_read(
+    to: &impl Print,
     n: u64,
     p: Processor,
     mem: &mut [u8],
     macs: &mut [u8],
     cache: &mut [u8],
     dir: &mut [u32],
-) -> Answer {
+) -> io::Result<Answer> {
     let mut line = [0u8; 64];
     let a = transfers::bus_read(p, mem, macs, cache, dir, &mut line, n);
-    write_line(&line);
-    a
+    write_line(to, &line)?;
+    Ok(a)
 }
 
 // A run, or an operation on one line.
 fn single(
+    to: &impl Print,
     kind: usize,
     n: u64,
     p: Processor,
@@ -88,11 +83,11 @@ fn single(
     macs: &mut [u8],
     cache: &mut [u8],
     dir: &mut [u32],
-) -> Answer {
+) -> io::Result<Answer> {
     match kind {
-        names::RUN => running::run(p, mem, macs, cache, dir, n),
-        names::DROP => dropping::evict_line(p, mem, macs, cache, dir, n),
-        _ => bus_read(n, p, mem, macs, cache, dir),
+        names::RUN => Ok(running::run(p, mem, macs, cache, dir, n)),
+        names::DROP => Ok(dropping::evict_line(p, mem, macs, cache, dir, n)),
+        _ => bus_read(to, n, p, mem, macs, cache, dir),
     }
 }
 
@@ -113,23 +108,24 @@ fn bus_write(
     transfers::bus_write_mac(p, mem, macs, cache, dir, &line[0..16], n)
 }
 
-// One operation, by its statement.
+// One operation, by its statement; an error is one of writing.
 pub fn done(
+    to: &impl Print,
     s: Statement,
     p: Processor,
     mem: &mut [u8],
     macs: &mut [u8],
     cache: &mut [u8],
     dir: &mut [u32],
-) -> Answer {
+) -> io::Result<Answer> {
     let kind = s.kind;
     let numbers = s.numbers;
     let n = numbers[0];
     match kind {
-        names::RUN | names::DROP | names::BUS_READ => single(kind, n, p, mem, macs, cache, dir),
+        names::RUN | names::DROP | names::BUS_READ => single(to, kind, n, p, mem, macs, cache, dir),
         names::BUS_WRITE | names::BUS_MAC => {
-            bus_write(kind, n, bytes(s), p, mem, macs, cache, dir)
+            Ok(bus_write(kind, n, bytes(s), p, mem, macs, cache, dir))
         }
-        _ => whole(kind, p, mem, macs, cache, dir),
+        _ => Ok(whole(kind, p, mem, macs, cache, dir)),
     }
 }
