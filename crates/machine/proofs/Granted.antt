@@ -2,8 +2,8 @@
 use Prim.Native.Nat.{ℕ, ◌+◌, ◌*◌, ◌/◌, ◌%◌, ◌≤◌, ◌<◌}
 use native.Mathlib.Omega.{arith}
 use mathlib.Core.Path.{◌≡◌, refl, sym, ap, ◌∙◌}
-use mathlib.Core.Bool.{Bool, true, false, ◌&&◌}
-use mathlib.Core.List.{List, [], ◌++◌, append-nil}
+use mathlib.Core.Bool.{Bool, true, false}
+use mathlib.Core.List.{List, append-nil}
 use lib.ListN.{length}
 use lib.Dec.{eqb}
 use borrow.Author.Tests.{eq-eqb, ne_eqb}
@@ -13,7 +13,7 @@ use Rattle.lists.specs.Words.{little, little_bytes}
 use Rattle.lists.proofs.PartLaws.{part_part}
 use Rattle.model.specs.Tags.{Tag, no_tag, secure_instruction, tag_named}
 use Rattle.model.specs.Lines.{line_at, put_line}
-use Rattle.model.specs.Log.{Note, Counts, no_counts, counts_of}
+use Rattle.model.specs.Log.{Counts, no_counts, counts_of}
 use Rattle.model.specs.Placement.{Placement, holding}
 use Rattle.model.specs.Requests.{perform}
 use Rattle.model.specs.Cached.{Cached, Did, cached, cached_handle, ready_place, hit_place, write_place, access_place}

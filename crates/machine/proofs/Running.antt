@@ -1,20 +1,18 @@
 -- The loop of run: what is done after i steps, and what is still to do.
-use Prim.Native.Nat.{ℕ, zero, suc, ◌+◌, ◌-◌, ◌*◌, ◌/◌, ◌≤◌, ◌<◌}
+use Prim.Native.Nat.{ℕ, suc, ◌+◌, ◌-◌, ◌*◌, ◌/◌, ◌≤◌, ◌<◌}
 use native.Mathlib.Omega.{arith}
-use mathlib.Core.Path.{◌≡◌, refl, sym, ap, ap₂, ◌∙◌}
-use mathlib.Core.Bool.{Bool, true, false}
-use mathlib.Core.List.{List, [], ◌++◌, append-nil}
+use mathlib.Core.Path.{◌≡◌, refl, sym, ap, ◌∙◌}
+use mathlib.Core.Bool.{true, false}
+use mathlib.Core.List.{List, [], ◌++◌}
 use lib.ListN.{length}
 use lib.Dec.{eqb}
 use borrow.Author.Tests.{eq-eqb, ne_eqb}
-use Rattle.lists.specs.If.{if}
 use Rattle.model.specs.Log.{Note, Counts, no_counts, counts_of, plus}
 use Rattle.model.specs.Requests.{Ran, perform}
 use Rattle.model.specs.Cached.{Cached, cached}
 use Rattle.model.proofs.Sums.{counts-append, plus_none, plus_assoc}
 use Rattle.directory.specs.Direct.{direct}
 use Rattle.directory.proofs.DirectLaws.{direct_laws}
-use Rattle.keeps.specs.Within.{Within}
 use Rattle.keeps.proofs.Counts.{within-append}
 use Rattle.keeps.proofs.Requests.{perform-good}
 use Rattle.instructions.specs.Board.{document_board}

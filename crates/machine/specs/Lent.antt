@@ -1,6 +1,6 @@
 -- What is lent to a run and to every call of the host, as one value: the record and the four buffers.
 use Rattle.std.specs.Prelude.{ℕ, List}
-use Rattle.std.specs.Borrow.{Bor}
+use Rattle.std.specs.Borrow.{MutBor}
 use denote.Triple.Both.{Both}
 use Rattle.model.specs.Cached.{Cached}
 use Rattle.instructions.specs.Calls.{Machine}
@@ -19,19 +19,19 @@ pub record Lent : Type 0 where
 abbrev pub machine_in : Lent → Machine Cached
 machine_in l = machine_of l.processor.r l.processor.special l.mem l.macs l.cache l.dir
 
--- a record, and what four references hold
-abbrev pub handed : Processor → Bor (List ℕ) → Bor (List ℕ) → Bor (List ℕ) → Bor (List ℕ) → Lent
+-- a record and four buffers
+abbrev pub handed : Processor → List ℕ → List ℕ → List ℕ → List ℕ → Lent
 handed p mem macs cache dir =
-    record { processor = p; mem = mem.now; macs = macs.now; cache = cache.now; dir = dir.now }
+    record { processor = p; mem = mem; macs = macs; cache = cache; dir = dir }
 
 -- a lent slice, on entry and at exit
 abbrev pub Slice : Type 0
-Slice = Both (Bor (List ℕ)) (Bor (List ℕ))
+Slice = Both (MutBor (List ℕ)) (MutBor (List ℕ))
 
 -- what a call finds in its slices, beside a record
 abbrev pub before : Processor → Slice → Slice → Slice → Slice → Lent
-before p mem macs cache dir = handed p mem.entry macs.entry cache.entry dir.entry
+before p mem macs cache dir = handed p mem.entry.now macs.entry.now cache.entry.now dir.entry.now
 
 -- what it leaves in them
 abbrev pub after : Processor → Slice → Slice → Slice → Slice → Lent
-after p mem macs cache dir = handed p mem.exit macs.exit cache.exit dir.exit
+after p mem macs cache dir = handed p mem.exit.now macs.exit.now cache.exit.now dir.exit.now
