@@ -41,7 +41,7 @@ fn last_block(k1: &[u8; 16], m: &[u8]) -> [u8; 16]
 {
     let n = m.len();
     let mut b = [0u8; 16];
-    bytes::copy(m, &mut b);
+    b[..n].copy_from_slice(m);
     if n == 16 {
         return sum(&b, k1);
     }
