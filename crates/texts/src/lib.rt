@@ -52,7 +52,7 @@ pub fn put(bytes: &[u8], out: &mut [u8], k: usize)
     ensures { out.new ≡ put_at k (length bytes.now) bytes.now
         out.old }
 {
-    bytes::copy(bytes, &mut out[k..]);
+    out[k..k + bytes.len()].copy_from_slice(bytes);
 }
 
 // The word of eight bytes, high first, from place k on.
