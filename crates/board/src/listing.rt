@@ -1,7 +1,7 @@
 // The listing: a lent row of line records, one per slot, is filled from the directory.
 ghost use Rattle.instructions.specs.Board.{document_board};
 ghost use Rattle.instructions.specs.Listing.{listing_refusal};
-ghost use Rattle.machine.specs.Lent.{machine_in, before};
+ghost use Rattle.machine.specs.Lent.{machine_in, handed};
 ghost use Rattle.board.specs.Listed.{Lists, Plans};
 
 use host::answer;
@@ -32,7 +32,8 @@ fn row_plan(refusal: u32, rows: usize) -> Plan
 
 // What is to be done with a row of so many records.
 fn planned(p: Processor, mem: &[u8], macs: &[u8], cache: &[u8], dir: &[u32], rows: usize) -> Plan
-    ensures { Plans (listing_refusal document_board (machine_in (before p mem macs cache dir)) rows) rows result }
+    ensures { Plans (listing_refusal document_board (machine_in (handed p mem.now macs.now cache.now dir.now)) rows)
+        rows result }
 {
     row_plan(host::listing::refusal(p, mem, macs, cache, dir, rows), rows)
 }
@@ -47,7 +48,7 @@ pub extern "C" fn hq_list_slots(
     dir: &[u32],
     rows: &mut [LineRecord],
 ) -> Report
-    ensures { Lists (before p.now mem macs cache dir) rows.old result
+    ensures { Lists (handed p.now mem.now macs.now cache.now dir.now) rows.old result
         rows.new }
 {
     let a = planned(*p, mem, macs, cache, dir, rows.len());
