@@ -1,0 +1,12 @@
+-- `schedule::unmixed` meets its promise.
+use Rattle.schedule.proofs.InverseLaws.{unmixed_key}
+use Rattle.rounds.proofs.WayLaws.{shares_back}
+use Rattle.schedule.proofs.unmixed.Goals as goal
+
+pub returns : goal.returns
+returns c =
+    let args = c.args in
+    let x = c.substituted-x in
+    unmixed_key args.s.now args.t.now args.k x.result c.shared.result c.requires.table
+    (shares_back args.t.now c.requires.table_2)
+    x.ensures c.shared.ensures
