@@ -1,6 +1,8 @@
 // The sentences of the meter, each by its number.
 ghost use Rattle.std.specs.Prelude.{◌≤◌, length};
 
+use std::io;
+
 // A line of a text: from where to where it stands.
 #[derive(Clone, Copy)]
 struct Span {
@@ -41,15 +43,15 @@ fn line(text: &[u8], n: u64) -> Span
 }
 
 // Writes line n of a text.
-fn write_line(fd: i32, text: &[u8], n: u64) {
+fn write_line(to: &impl Print, text: &[u8], n: u64) -> io::Result<()> {
     let w = line(text, n);
     let from = w.from;
-    let to = w.to;
-    io::write_all(fd, &text[from..to]);
+    let end = w.to;
+    to.write_all(&text[from..end])
 }
 
 // Writes an error of a board file: its number, its name and a sentence.
-pub fn file_error(fd: i32, error: u32) {
+pub fn file_error(to: &impl Print, error: u32) -> io::Result<()> {
     let sentences = b"201 unknown-word: the line begins with no statement and no instruction\n\
         202 no-number: a number is expected, as 12, -3 or 0x1f, or a register, as r5\n\
         203 too-large: a number is larger than its place allows\n\
@@ -68,13 +70,13 @@ pub fn file_error(fd: i32, error: u32) {
         216 too-many-steps: a run has at most 10000 steps\n\
         217 register-zero: r0 is always zero\n";
     if error < 201 {
-        return;
+        return Ok(());
     }
-    write_line(fd, sentences, (error - 201) as u64);
+    write_line(to, sentences, (error - 201) as u64)
 }
 
 // Writes a fault's number and name; 0 is none.
-fn fault(fd: i32, n: u64) {
+fn fault(to: &impl Print, n: u64) -> io::Result<()> {
     let names = b"0 (no fault)\n\
         1 (DRK locked)\n\
         2 (active mode needed)\n\
@@ -87,11 +89,11 @@ fn fault(fd: i32, n: u64) {
         9 (address not aligned)\n\
         10 (address beyond memory)\n\
         11 (undefined opcode)\n";
-    write_line(fd, names, n);
+    write_line(to, names, n)
 }
 
 // Writes a refusal's number and name.
-fn refusal(fd: i32, n: u64) {
+fn refusal(to: &impl Print, n: u64) -> io::Result<()> {
     let names = b"101 (memory size)\n\
         102 (MAC area size)\n\
         103 (cache size)\n\
@@ -103,57 +105,47 @@ fn refusal(fd: i32, n: u64) {
         109 (MAC wrong)\n\
         110 (listing row size)\n";
     if n < 101 {
-        return;
+        return Ok(());
     }
-    write_line(fd, names, n - 101);
+    write_line(to, names, n - 101)
 }
 
 // Writes what a call answered: a fault or a refusal, by number and name.
-pub fn answer(fd: i32, n: u64) {
+pub fn answer(to: &impl Print, n: u64) -> io::Result<()> {
     if n < 101 {
-        return fault(fd, n);
+        return fault(to, n);
     }
-    refusal(fd, n);
+    refusal(to, n)
 }
 
 // Writes a tag's name.
-pub fn tag(fd: i32, n: u32) {
+pub fn tag(to: &impl Print, n: u32) -> io::Result<()> {
     let names = b"none\nsecure instruction\nsecure data\n";
-    write_line(fd, names, n as u64);
+    write_line(to, names, n as u64)
 }
 
 // Writes how the sheet of a third run was made.
-pub fn kept_heading(fd: i32) {
-    io::write_all(
-        fd,
-        b"KEPT SHEET: the same run a third time, with the cache as the warm run left it",
-    );
+pub fn kept_heading(to: &impl Print) -> io::Result<()> {
+    to.write_all(b"KEPT SHEET: the same run a third time, with the cache as the warm run left it")
 }
 
 // Writes how a sheet was made, and which it is.
-pub fn heading(fd: i32, warm: bool) {
+pub fn heading(to: &impl Print, warm: bool) -> io::Result<()> {
     if warm {
-        io::write_all(
-            fd,
+        return to.write_all(
             b"WARM SHEET: the same run again, with the cache as the run before left it\n",
         );
-        return;
     }
-    io::write_all(
-        fd,
-        b"COLD SHEET: the run from an empty cache, behind a power cut\n",
-    );
+    to.write_all(b"COLD SHEET: the run from an empty cache, behind a power cut\n")
 }
 
 // Writes which sheet a row is of, by the sheet and by its run, the first, the second or the third.
-pub fn sheet(fd: i32, warm: bool, run: u64) {
+pub fn sheet(to: &impl Print, warm: bool, run: u64) -> io::Result<()> {
     if !warm {
-        io::write_all(fd, b"cold");
-        return;
+        return to.write_all(b"cold");
     }
     if run == 3 {
-        io::write_all(fd, b"kept");
-        return;
+        return to.write_all(b"kept");
     }
-    io::write_all(fd, b"warm");
+    to.write_all(b"warm")
 }

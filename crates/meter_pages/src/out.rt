@@ -1,27 +1,28 @@
-// Words, numbers and columns on standard output.
-use libc::STDOUT_FILENO;
+// Words, numbers and columns on standard output, or on whatever else is lent to write to.
+use std::io;
 
 // Writes a text.
-pub fn text(words: &[u8]) {
-    io::write_all(STDOUT_FILENO, words);
+pub fn text(to: &impl Print, words: &[u8]) -> io::Result<()> {
+    to.write_all(words)
 }
 
 // Writes a number.
-pub fn number(n: u64) {
-    io::print_decimal(STDOUT_FILENO, n);
+pub fn number(to: &impl Print, n: u64) -> io::Result<()> {
+    to.print(n)
 }
 
 // Writes a number with a comma before it.
-pub fn comma(n: u64) {
-    text(b",");
-    number(n);
+pub fn comma(to: &impl Print, n: u64) -> io::Result<()> {
+    text(to, b",")?;
+    number(to, n)
 }
 
 // Writes the first n bytes of a text.
-fn first(words: &[u8], n: usize) {
+fn first(to: &impl Print, words: &[u8], n: usize) -> io::Result<()> {
     if n <= words.len() {
-        text(&words[0..n]);
+        text(to, &words[0..n])?;
     }
+    Ok(())
 }
 
 // How many blanks stand before a number in a column of ten.
@@ -42,7 +43,7 @@ fn blanks(n: u64) -> usize {
 }
 
 // Writes a number to the right of a column of ten.
-pub fn column(n: u64) {
-    first(b"          ", blanks(n));
-    number(n);
+pub fn column(to: &impl Print, n: u64) -> io::Result<()> {
+    first(to, b"          ", blanks(n))?;
+    number(to, n)
 }
