@@ -1,13 +1,13 @@
 -- What decoding finds: the tests of the table's entry, an address beyond the memory, and what has no fault below
 -- opcode 32.
-use Rattle.std.proofs.Common.{◌≡◌, ℕ, ◌+◌, ◌-◌, ◌<◌, ◌≤◌, Bool, true, false, not, ◌||◌, eqb, ltb, sym, refl, ap, ◌∙◌, arith, ltb-false, ltb-true, le-ltb, lt-ltb, eq-eqb, ne_eqb}
+use Rattle.std.proofs.Common.{◌≡◌, ℕ, ◌+◌, ◌-◌, ◌<◌, ◌≤◌, Bool, true, false, not, ◌&&◌, ◌||◌, eqb, ltb, get_or, sym, refl, ap, ◌∙◌, arith, ltb-false, ltb-true, le-ltb, lt-ltb, eq-eqb, ne_eqb}
 use Rattle.lists.proofs.Cases.{by_test}
 use Rattle.instructions.specs.Rules.{first_of}
-use Rattle.instructions.specs.Board.{Board}
-use Rattle.instructions.specs.Record.{Processor}
-use Rattle.instructions.specs.Fields.{opcode}
+use Rattle.instructions.specs.Board.{Board, document_board, opcode_table}
+use Rattle.instructions.specs.Record.{Processor, active}
+use Rattle.instructions.specs.Fields.{opcode, exists, needs_active}
 use Rattle.instructions.specs.Faults.{sel_listed, thread_faults, opcode_faults, address_faults, decode_fault}
-use Rattle.instructions.proofs.RuleLaws.{eqb-outside, first_of-first, first_of-second}
+use Rattle.instructions.proofs.RuleLaws.{if-taken, if-left, eqb-outside, first_of-first, first_of-second}
 
 -- an address beyond the last word of a memory, in a difference that cannot wrap
 pub ltb_minus : (M a k : ℕ) → k ≤ M → ltb M (a + k) ≡ ltb (M - k) a
@@ -26,6 +26,26 @@ entry-none k e = rw (eq-eqb k 0 e)
 
 pub entry_some : (k : ℕ) → (k ≡ 0 → ⊥) → not (not (eqb k 0)) ≡ false
 entry_some k e = rw (ne_eqb k 0 e)
+
+-- what the table's entry of the opcode says: it does not exist; it needs active mode, which is not there; neither
+module _ (p : Processor) (w : ℕ) where
+  abbrev entry : ℕ
+  entry = get_or opcode_table (opcode w) 0
+
+  pub fault_missing : entry ≡ 0 → 11 ≡ first_of (opcode_faults document_board p w)
+  unfolding opcode_faults document_board exists needs_active active
+  fault_missing e = if-taken _ _ _ (entry-none _ e)
+
+  pub fault_passive : (entry ≡ 0 → ⊥) → (eqb entry 2 && not (eqb p.cem.mode 1)) ≡ true
+      → 2 ≡ first_of (opcode_faults document_board p w)
+  unfolding opcode_faults document_board exists needs_active active
+  fault_passive some e = if-left _ _ _ _ (entry_some _ some) (if-taken _ _ _ e)
+
+  pub fault_threads : (n : ℕ) → (entry ≡ 0 → ⊥) → (eqb entry 2 && not (eqb p.cem.mode 1)) ≡ false
+      → n ≡ first_of (thread_faults p w)
+      → n ≡ first_of (opcode_faults document_board p w)
+  unfolding opcode_faults document_board exists needs_active active
+  fault_threads n some e h = if-left _ _ _ _ (entry_some _ some) (if-left _ _ _ _ e h)
 
 -- the last of a list's tests
 pub or_false : (b : Bool) → (b || false) ≡ b

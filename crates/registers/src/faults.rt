@@ -90,6 +90,7 @@ fn thread_fault(r: &[u64; 32], q: Special, op: u64, w: u64) -> u64
 }
 
 // What decoding finds of the opcode: 11, 2, 1, 3, 7, and otherwise 0.
+#[tactic(auto, using(crate::proofs::Decoding::fault_missing, crate::proofs::Decoding::fault_passive, crate::proofs::Decoding::fault_threads))]
 fn opcode_fault(t: &[u8; 64], r: &[u64; 32], q: Special, w: u64) -> u64
     requires { t.now ≡ opcode_table }
     ensures { result ≡ first_of (s.opcode_faults document_board (processor_of r.now q) w) }
