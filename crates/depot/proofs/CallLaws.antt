@@ -1,35 +1,28 @@
 -- Each way out of a call of the depot, as the meaning has it: a refusal by its number, or the work done.
-use mathlib.Core.Path.{◌≡◌, refl, sym, ap, ap₂, ◌∙◌}
+use mathlib.Core.Path.{◌≡◌, sym, ap, ap₂, ◌∙◌}
 use mathlib.Core.Bool.{Bool, true, false, not}
 use mathlib.Core.List.{List, [], ◌∷◌, ◌++◌, append-nil}
-use Prim.Native.Nat.{ℕ, ◌+◌, ◌-◌, ◌%◌, ◌≤◌}
+use Prim.Native.Nat.{ℕ, ◌-◌, ◌%◌}
 use native.Mathlib.Omega.{arith}
 use borrow.Author.Tests.{eq-eqb, ne_eqb}
 use lib.Dec.{eqb}
 use lib.ListN.{length, take, drop, drop_of_length-le, length-drop}
-use Rattle.lists.specs.Parts.{put_at}
 use Rattle.lists.specs.Bytes.{same}
 use Rattle.model.specs.Cipher.{Cipher}
 use Rattle.instructions.specs.Rules.{first_of}
 use Rattle.instructions.specs.Refusals.{buffer_flaws}
-use Rattle.instructions.specs.Depot.{Sealed, depot_flaws, depot_sign, depot_seal, depot_open}
-use Rattle.lists.proofs.Copies.{rest-copied}
+use Rattle.instructions.specs.Depot.{depot_flaws, depot_sign, depot_seal, depot_open}
 use Rattle.depot.specs.Answer.{gave}
 
 -- the copy of a MAC over the end of a line, as the code makes it
 abbrev copied_over : List ℕ → List ℕ → List ℕ
-copied_over line mac =
-    take 48 line ++ ((take (length mac) mac ++ drop (length mac) (take (length line - 48) (drop 48 line)))
-    ++ drop (length line - 48) (drop 48 line))
+copied_over line mac = take 48 line ++ (mac ++ drop (length line - 48) (drop 48 line))
 
 -- sixteen bytes copied over the last sixteen of a line
-mac-copied : (line mac : List ℕ) → length line ≡ 64 → length mac ≡ 16
-    → copied_over line mac ≡ take 48 line ++ mac
-unfolding put_at
-mac-copied line mac size sixteen =
-    rest-copied line mac 48 (omega arith)
-    ∙ ap (λ (r : List ℕ). take 48 line ++ (mac ++ r))
-    (drop_of_length-le (drop 48 line) {i = length mac} (omega (arith, length-drop 48 line)))
+mac-copied : (line mac : List ℕ) → length line ≡ 64 → copied_over line mac ≡ take 48 line ++ mac
+mac-copied line mac size =
+    ap (λ (r : List ℕ). take 48 line ++ (mac ++ r))
+    (drop_of_length-le (drop 48 line) {i = length line - 48} (omega (arith, length-drop 48 line)))
     ∙ ap (λ (r : List ℕ). take 48 line ++ r) (append-nil mac)
 
 -- the first refusal of a line and a MAC, whatever else may be refused
@@ -56,13 +49,13 @@ module _ (c : Cipher) (key : List ℕ) (a : ℕ) (line : List ℕ) where
   unfolding depot_sign buffer_flaws
   sign_107 h g = rw (eq-eqb (a % 64) 0 h, ne_eqb (length line) 64 g)
 
-  pub sign_done : (mac line' : List ℕ) → a % 64 ≡ 0 → length line ≡ 64 → length mac ≡ 16
+  pub sign_done : (mac line' : List ℕ) → a % 64 ≡ 0 → length line ≡ 64
       → mac ≡ c.code_mac key a (take 48 line)
       → line' ≡ copied_over line mac
       → gave 0 line' [] ≡ depot_sign c key a line
   unfolding depot_sign buffer_flaws
-  sign_done mac line' h g sixteen e copy =
-      ap (λ (l : List ℕ). gave 0 l []) (copy ∙ mac-copied line mac g sixteen
+  sign_done mac line' h g e copy =
+      ap (λ (l : List ℕ). gave 0 l []) (copy ∙ mac-copied line mac g
       ∙ ap (λ (m : List ℕ). take 48 line ++ m) e)
       ∙ rw (eq-eqb (a % 64) 0 h, eq-eqb (length line) 64 g)
 

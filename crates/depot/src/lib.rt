@@ -22,7 +22,7 @@ pub fn sign(hi: u64, lo: u64, address: u64, line: &mut [u8]) -> u32
         return 107;
     }
     let mac = sealing::code_mac(hi, lo, address, &line[..48]);
-    bytes::copy(&mac, &mut line[48..]);
+    line[48..].copy_from_slice(&mac);
     0
 }
 
@@ -42,7 +42,7 @@ pub fn seal(hi: u64, lo: u64, address: u64, line: &mut [u8], mac: &mut [u8]) -> 
     }
     sealing::seal(hi, lo, address, line);
     let made = sealing::data_mac(hi, lo, address, line);
-    bytes::copy(&made, mac);
+    mac.copy_from_slice(&made);
     0
 }
 
