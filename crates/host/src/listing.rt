@@ -5,7 +5,7 @@ ghost use Rattle.directory.specs.Numbers.{entry_of};
 ghost use Rattle.directory.specs.Direct.{direct};
 ghost use Rattle.instructions.specs.Board.{document_board};
 ghost use Rattle.instructions.specs.Listing.{listing_refusal};
-ghost use Rattle.machine.specs.Lent.{machine_in, before};
+ghost use Rattle.machine.specs.Lent.{machine_in, handed};
 ghost use Rattle.host.specs.Row.{row_of};
 
 use crate::answer;
@@ -24,7 +24,7 @@ pub struct LineRecord {
 
 // The refusal of a listing into a row of so many records, and 0 where there is none.
 pub fn refusal(p: Processor, mem: &[u8], macs: &[u8], cache: &[u8], dir: &[u32], rows: usize) -> u32
-    ensures { result ≡ listing_refusal document_board (machine_in (before p mem macs cache dir)) rows }
+    ensures { result ≡ listing_refusal document_board (machine_in (handed p mem.now macs.now cache.now dir.now)) rows }
 {
     let own = entry::call::row(rows, dir.len());
     answer::refusal(p, mem.len(), macs.len(), cache.len(), dir, own)
