@@ -42,7 +42,7 @@ pub fn start(b: Board) -> Processor {
 pub fn laid(text: &[u8], b: Board) -> Laid
     requires { Within b }
 {
-    let mut mem = io::large_buffer();
+    let mut mem = [0u8; 65536];
     let mut macs = [0u8; 16384];
     let m = b.memory;
     let k = m / 4;
@@ -67,7 +67,7 @@ pub fn both(text: &[u8], b: Board, slots: usize) -> Sheets
     requires within { Within b }
     requires slots_bound { slots ≤ 64 }
 {
-    let mut mem = io::large_buffer();
+    let mut mem = [0u8; 65536];
     let mut macs = [0u8; 16384];
     let mut cache = [0u8; 4096];
     let mut dir = [0u32; 64];
@@ -122,7 +122,7 @@ fn third_on(
 pub fn third(text: &[u8], b: Board, line: u64) -> Later
     requires { Within b }
 {
-    let mut mem = io::large_buffer();
+    let mut mem = [0u8; 65536];
     let mut macs = [0u8; 16384];
     let mut cache = [0u8; 4096];
     let mut dir = [0u32; 64];
