@@ -1,7 +1,7 @@
 // The module writer's way: every run is cold, since only a read from memory shows a line that was signed wrongly.
 //
-// Build it from the repository's root once `rt staticlib board` has made the library:
-//     rustc -O -L target/staticlib -l static=board examples/module_writer.rs -o module_writer && ./module_writer
+// Build it from the repository's root once `rt lib` has made the library in crates/board:
+//     rustc -O -L crates/board/out -l static=board examples/module_writer.rs -o module_writer && ./module_writer
 
 const LINE: usize = 64;
 const MEMORY: usize = 1024;

@@ -1,7 +1,7 @@
 /* The OS porter's way: the cache is kept from run to run, lines are dropped at will, and only the counts tell the difference.
  *
- * Build it from the repository's root once `rt staticlib board` has made the library:
- *     gcc -O2 -Iinclude examples/os_porter.c target/staticlib/libboard.a -o os_porter && ./os_porter */
+ * Build it from the repository's root once `rt lib` has made the library in crates/board:
+ *     gcc -O2 -Iinclude examples/os_porter.c crates/board/out/libboard.a -o os_porter && ./os_porter */
 #include <inttypes.h>
 #include <stdio.h>
 #include <stdlib.h>

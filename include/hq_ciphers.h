@@ -1,4 +1,4 @@
-/* AES-128, CBC, CMAC and sealed lines for programs in C: the functions of the crate cipher_face, in target/staticlib/libcipher_face.a. */
+/* AES-128, CBC, CMAC and sealed lines for programs in C: the functions of the crate cipher_face, in crates/cipher_face/out/libcipher_face.a. */
 #ifndef HQ_CIPHERS_H
 #define HQ_CIPHERS_H
 

@@ -1,4 +1,4 @@
-/* The adapter: the proved calls of target/staticlib/libboard.a as the machine under test. */
+/* The adapter: the proved calls of crates/board/out/libboard.a as the machine under test. */
 #include "compare.h"
 
 #include <stdlib.h>
