@@ -10,7 +10,7 @@ use Rattle.model.specs.Lines.{put_line}
 use Rattle.model.specs.Log.{Counts, no_counts, counts_of, plus}
 use Rattle.model.specs.Placement.{Placement}
 use Rattle.model.specs.PlacementLaws.{PlacementLaws}
-use Rattle.model.specs.Cached.{Cached, Did, then_do, evict_place, evict_from, evict_all, lose_place, lose_from, lose_all}
+use Rattle.model.specs.Cached.{Cached, Did, then_do, evict_place, evict_from, evict_all, lose_from, lose_all}
 use Rattle.model.proofs.Sums.{counts-append, plus_none, plus_assoc}
 use Rattle.model.proofs.CachedRules.{lose_used, lose_free}
 use Rattle.directory.specs.Direct.{direct}

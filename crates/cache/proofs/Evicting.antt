@@ -14,7 +14,7 @@ use Rattle.model.specs.Log.{Note, Counts, no_counts, counts_of}
 use Rattle.model.specs.Placement.{Entry, Placement}
 use Rattle.model.specs.Cached.{Cached, evict_place}
 use Rattle.model.proofs.Sums.{counts_clean}
-use Rattle.model.proofs.CachedRules.{evict-dirty, evict_clean, evict-free, lose_used, lose_free}
+use Rattle.model.proofs.CachedRules.{evict-dirty, evict_clean, evict-free}
 use Rattle.model.proofs.LineLaws.{stored-length}
 use Rattle.directory.specs.Direct.{direct}
 use Rattle.directory.proofs.DirectLaws.{direct_laws}
@@ -22,7 +22,7 @@ use Rattle.directory.proofs.TagLaws.{named-number}
 use Rattle.ciphers.specs.Cipher.{aes_cipher}
 use Rattle.ciphers.proofs.Laws.{aes_laws}
 use Rattle.cache.specs.Lent.{Fit}
-use Rattle.cache.specs.Does.{Does, WrittenBack, Loses}
+use Rattle.cache.specs.Does.{Does, WrittenBack}
 
 -- in a fit memory a line, its MAC entry and a slot lie within their buffers
 pub room : (s : Cached) (n p : ℕ) → Fit s → p < length s.dir → n < length s.mem / 64

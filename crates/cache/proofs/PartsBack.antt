@@ -1,14 +1,14 @@
 -- A part of a buffer that was lent and handed back, in the words of lines and MAC entries.
 use Prim.Native.Nat.{ℕ, ◌+◌, ◌-◌, ◌*◌, ◌≤◌}
 use native.Mathlib.Omega.{arith}
-use mathlib.Core.Path.{◌≡◌, refl, sym, ap, ◌∙◌, subst}
+use mathlib.Core.Path.{◌≡◌, ap, ◌∙◌}
 use mathlib.Core.Bool.{Bool}
-use mathlib.Core.List.{List, [], ◌++◌, append-nil}
-use lib.ListN.{length, take, drop, length-take, length-drop, drop_of_length-le}
-use lib.Seq.{take_all, take-take}
+use mathlib.Core.List.{List}
+use lib.ListN.{length, take, drop}
+use lib.Seq.{take-take}
 use borrow.Rule.Slice.PartMut.{mid_of, put_mid}
 use Rattle.lists.specs.Parts.{part_at, put_at}
-use Rattle.lists.specs.Bytes.{zeros, same}
+use Rattle.lists.specs.Bytes.{same}
 use Rattle.lists.proofs.PartLaws.{part_part, length_part}
 use Rattle.model.specs.Tags.{secure_instruction, secure_data}
 use Rattle.model.specs.Lines.{line_at, put_line, mac_at, put_mac, passes}
@@ -30,16 +30,8 @@ part_back a k x l =
     rw e
 
 -- a copy over a whole part
-pub copied : (a : ℕ) (x l y : List ℕ) → a + length x ≤ length l → y ≡ take (length x) x
-    ++ drop (length x) (mid_of a (a + length x - a) l) → put_mid a (a + length x - a) l y ≡ put_at a (length x) x l
-copied a x l y h e =
-    let m : length (mid_of a (a + length x - a) l) ≤ length x = simp (length-take, length-drop) (omega arith) in
-    let f : y ≡ x = e ∙ (rw (
-      take_all (length x) x (omega arith),
-      drop_of_length-le (mid_of a (a + length x - a) l)
-          m,
-    ) (append-nil x)) in
-    rw f (part_back a (length x) x l)
+pub copied : (a : ℕ) (x l y : List ℕ) → y ≡ x → put_mid a (a + length x - a) l y ≡ put_at a (length x) x l
+copied a x l y e = rw e (part_back a (length x) x l)
 
 -- a slot's bytes changed in place
 pub changed : (f : List ℕ → List ℕ) (p : ℕ) (l y : List ℕ)

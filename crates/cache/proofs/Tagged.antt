@@ -2,13 +2,13 @@
 use Prim.Native.Nat.{ℕ, ◌+◌, ◌*◌, ◌≤◌}
 use native.Mathlib.Omega.{arith}
 use mathlib.Core.Path.{◌≡◌, refl, sym, ap, ◌∙◌}
-use mathlib.Core.Bool.{Bool, true, false}
+use mathlib.Core.Bool.{Bool, true}
 use mathlib.Core.List.{List, [], ◌∷◌}
 use lib.ListN.{length}
 use Rattle.lists.specs.If.{if}
-use Rattle.lists.specs.Parts.{part_at, put_at}
+use Rattle.lists.specs.Parts.{part_at}
 use Rattle.lists.proofs.PartLaws.{put_part, part_put, put-put, length_part}
-use Rattle.model.specs.Tags.{Tag, secure_instruction, secure_data, is_data, is_checked, tag_named}
+use Rattle.model.specs.Tags.{secure_instruction, secure_data, is_data, is_checked, tag_named}
 use Rattle.model.specs.Lines.{line_at, put_line, mac_at, put_mac, passes, seen, stored, signed}
 use Rattle.model.specs.Log.{Note, Counts, no_counts, counts_of}
 use Rattle.model.proofs.Sums.{counts-evicted, counts-filled}

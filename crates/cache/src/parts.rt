@@ -14,7 +14,7 @@ fn put(to: &mut [u8], a: usize, from: &[u8])
     ensures { to.new ≡ put_at a (length from.now) from.now to.old }
 {
     let e = a + from.len();
-    bytes::copy(from, &mut to[a..e]);
+    to[a..e].copy_from_slice(from);
 }
 
 // Slot or line i becomes 64 zero bytes.
