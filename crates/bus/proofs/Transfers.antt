@@ -1,14 +1,12 @@
 -- A transfer behind an eviction is what the cached memory makes of the request.
-use mathlib.Core.Path.{◌≡◌, refl, sym, ap, ◌∙◌}
+use mathlib.Core.Path.{◌≡◌, refl, ap, ◌∙◌}
 use mathlib.Core.Bool.{true}
-use mathlib.Core.List.{List, [], ◌++◌}
+use mathlib.Core.List.{List, []}
 use mathlib.Core.Option.{some}
-use Prim.Native.Nat.{ℕ, ◌+◌, ◌-◌, ◌*◌, ◌≤◌}
+use Prim.Native.Nat.{ℕ, ◌+◌, ◌-◌, ◌*◌}
 use native.Mathlib.Omega.{arith}
 use lib.ListN.{length, take, drop}
 use Rattle.lists.specs.Parts.{part_at, put_at}
-use Rattle.lists.proofs.PartLaws.{length_part}
-use Rattle.lists.proofs.Copies.{whole_copied}
 use Rattle.model.specs.Lines.{line_at, put_line, put_mac}
 use Rattle.model.specs.Log.{Counts}
 use Rattle.model.specs.Requests.{bus_read, bus_write, bus_mac}
@@ -28,17 +26,12 @@ part_is l a k = let e : a + k - a ≡ k = omega arith in ap (λ (j : ℕ). take 
 
 module _ (n : ℕ) (s : Cached) (k : Counts) (t : Cached) (evicted : Does (evict_line aes_cipher direct n s) true k t)
   where
-    pub read_done : (buf buf' : List ℕ) → n * 64 + 64 ≤ length t.mem → length buf ≡ 64
-        → buf' ≡ take (length (lent_part (n * 64) 64 t.mem)) (lent_part (n * 64) 64 t.mem)
-        ++ drop (length (lent_part (n * 64) 64 t.mem)) buf
-        → Handles (bus_read n) s (some buf') k t
+    pub read_done : (buf' : List ℕ) → buf' ≡ lent_part (n * 64) 64 t.mem → Handles (bus_read n) s (some buf') k t
     unfolding cached_handle line_at
-    read_done buf buf' fits size copy =
-        let part = part_is t.mem (n * 64) 64 in
-        let as_long = ap length part ∙ length_part (n * 64) 64 t.mem fits ∙ sym size in
-        let whole = whole_copied (lent_part (n * 64) 64 t.mem) buf buf' as_long copy in
+    read_done buf' copy =
         record {
-          answered = ap some (whole ∙ part ∙ ap (λ (z : Cached). part_at (n * 64) 64 z.mem) evicted.left);
+          answered =
+              ap some (copy ∙ part_is t.mem (n * 64) 64 ∙ ap (λ (z : Cached). part_at (n * 64) 64 z.mem) evicted.left);
           counted = evicted.counted;
           left = evicted.left;
         }

@@ -1,7 +1,7 @@
 -- What a transfer over the bus promises: what the cached memory of the model makes of the request, its counts being the
 -- sums over the notes.
 use Rattle.std.specs.Prelude.{◌≡◌, List, ℕ}
-use Rattle.std.specs.Borrow.{Bor}
+use Rattle.std.specs.Borrow.{MutBor}
 use denote.Triple.Both.{Both}
 use Rattle.model.specs.Log.{Counts, counts_of}
 use Rattle.model.specs.Requests.{Request, Reply}
@@ -18,7 +18,7 @@ pub record Handles (q : Request) (s : Cached) (reply : Reply) (k : Counts) (t : 
 
 -- A lent slice, on entry and at exit.
 abbrev Slice : Type 0
-Slice = Both (Bor (List ℕ)) (Bor (List ℕ))
+Slice = Both (MutBor (List ℕ)) (MutBor (List ℕ))
 
 -- The memory that a call finds in its slices, under the DRK in two words, and the one that it leaves in them.
 abbrev pub before : ℕ → ℕ → Slice → Slice → Slice → Slice → Cached

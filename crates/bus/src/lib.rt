@@ -30,7 +30,7 @@ pub fn read(
     let k = whole::drop_line(hi, lo, mem, macs, cache, dir, n);
     let a = n * 64;
     let e = a + 64;
-    bytes::copy(&mem[a..e], line);
+    line.copy_from_slice(&mem[a..e]);
     k
 }
 
@@ -41,7 +41,7 @@ fn store(part: &[u8], whole: &mut [u8], a: usize)
         ≡ put_at a (length part.now) part.now whole.old }
 {
     let e = a + part.len();
-    bytes::copy(part, &mut whole[a..e]);
+    whole[a..e].copy_from_slice(part);
 }
 
 // A buffer of 64 bytes goes to line n of memory.

@@ -1,5 +1,5 @@
 -- The ciphers of document 01 keep the laws on which the theorem of demand 3 rests.
-use mathlib.Core.Path.{◌≡◌, refl, ◌∙◌}
+use mathlib.Core.Path.{◌≡◌, ◌∙◌}
 use mathlib.Core.List.{List, ◌++◌}
 use Prim.Native.Nat.{ℕ}
 use lib.ListN.{length}
@@ -7,14 +7,13 @@ use Rattle.lists.specs.Bytes.{Bytes, zeros}
 use Rattle.lists.specs.Words.{big_bytes}
 use Rattle.lists.proofs.ByteLaws.{bytes-append, bytes-zeros}
 use Rattle.lists.proofs.WordLaws.{bytes-big_bytes}
-use Rattle.model.specs.CipherLaws.{Sized, CipherLaws}
+use Rattle.model.specs.CipherLaws.{CipherLaws}
 use Rattle.aes_standard.specs.Schedule.{key_expansion}
-use Rattle.aes_standard.specs.Cipher.{cipher}
 use Rattle.aes_standard.proofs.RoundTrip.{cipher-length, cipher-block}
 use Rattle.aes_standard.proofs.ChainTrip.{cbc_encrypt-length, cbc_encrypt-bytes, cbc_decrypt-length, cbc_decrypt-bytes}
 use Rattle.aes_standard.proofs.ChainTrip.{cbc_decrypt-cbc_encrypt}
 use Rattle.cmac.specs.Cmac.{cmac}
-use Rattle.sealing.specs.Lines.{mac_of, line_key, code_mac, data_mac, start_vector, enciphered, deciphered}
+use Rattle.sealing.specs.Lines.{mac_of, line_key, data_mac, start_vector, enciphered, deciphered}
 use Rattle.sealing.proofs.StreamLaws.{stream-length}
 use Rattle.ciphers.specs.Cipher.{aes_cipher}
 
