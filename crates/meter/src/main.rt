@@ -5,51 +5,70 @@
 mod script;
 mod sizes;
 
+ghost use Rattle.std.specs.Prelude.{◌≤◌, length};
 ghost use Rattle.board_file.specs.Boards.{Within};
 
 use board_file::board;
 use board_file::board::Board;
 use host::answer::Report;
-use libc::{STDERR_FILENO, STDOUT_FILENO};
 use meter_options::Options;
 use meter_pages::{book, out, printing, rows};
 use sheets::running::Sheets;
+use std::alloc::Allocator;
+use std::io::Read;
+use std::rt::{Env, Files};
+use std::{fs, io};
 
 // Says what is wrong with the file, with the line and the error's number.
-fn refuse(path: &[u8], line: u64, error: u32) {
-    io::write_all(STDERR_FILENO, b"meter: ");
-    io::write_all(STDERR_FILENO, path);
-    io::write_all(STDERR_FILENO, b", line ");
-    io::print_decimal(STDERR_FILENO, line);
-    io::write_all(STDERR_FILENO, b": error ");
-    book::file_error(STDERR_FILENO, error);
-    io::write_all(STDERR_FILENO, b"\n");
+fn refuse(to: &impl Print, path: &[u8], line: u64, error: u32) -> io::Result<()> {
+    to.write_all(b"meter: ")?;
+    to.write_all(path)?;
+    to.write_all(b", line ")?;
+    to.print(line)?;
+    to.write_all(b": error ")?;
+    book::file_error(to, error)?;
+    to.write_all(b"\n")
 }
 
 // Says how the program is called.
-fn usage() {
-    io::write_all(
-        STDERR_FILENO,
+fn usage(to: &impl Print) -> io::Result<()> {
+    to.write_all(
         b"meter: the arguments are not understood\n\
         usage: meter FILE [--csv] [--sizes] [--script] [--keep] [--drop LINE]\n",
-    );
+    )
+}
+
+// An error's text without the system's number behind it.
+fn words_of(said: &str) -> &str {
+    match said.split_once(" (os error ") {
+        Some((words, _)) => words,
+        None => said,
+    }
+}
+
+// Says what the system refused to do with a path, in the system's own words.
+fn fail<A: Allocator>(to: &impl Print, alloc: A, path: &[u8], e: io::Error) -> io::Result<()> {
+    let said = e.to_string(alloc)?;
+    to.write_all(path)?;
+    to.write_all(b": ")?;
+    to.write_all(words_of(said.as_str()).as_bytes())?;
+    to.write_all(b"\n")
 }
 
 // Prints both sheets.
-fn both(b: Board, s: Sheets, csv: bool) {
+fn both(to: &impl Print, b: Board, s: Sheets, csv: bool) -> io::Result<()> {
     let cold = s.cold;
     let warm = s.warm;
     if csv {
-        rows::header();
-        rows::row(1, b.slots, cold);
-        rows::row(2, b.slots, warm);
-        rows::slot_header();
-        rows::slots(1, b.slots, cold);
-        rows::slots(2, b.slots, warm);
-        return;
+        rows::header(to)?;
+        rows::row(to, 1, b.slots, cold)?;
+        rows::row(to, 2, b.slots, warm)?;
+        rows::slot_header(to)?;
+        rows::slots(to, 1, b.slots, cold)?;
+        return rows::slots(to, 2, b.slots, warm);
     }
-    printing::sheet(b, cold);
-    printing::sheet(b, warm);
+    printing::sheet(to, b, cold)?;
+    printing::sheet(to, b, warm)
 }
 
 // The line that is dropped before a third run, or one past every memory.
@@ -61,90 +80,131 @@ fn line_to_drop(o: Options) -> u64 {
 }
 
 // Says that a line was dropped, where it was, and ends the heading.
-fn say_dropped(o: Options, dropped: Report) {
+fn say_dropped(to: &impl Print, o: Options, dropped: Report) -> io::Result<()> {
     if o.drop {
-        out::text(b" but for line ");
-        out::number(o.line);
-        out::text(b", dropped before it\ndrop: ");
-        return printing::report(dropped);
+        out::text(to, b" but for line ")?;
+        out::number(to, o.line)?;
+        out::text(to, b", dropped before it\ndrop: ")?;
+        return printing::report(to, dropped);
     }
-    out::text(b"\n");
+    out::text(to, b"\n")
 }
 
 // Prints the sheet of a third run, with the cache kept but for a line that is dropped where that is asked for.
-fn third(text: &[u8], b: Board, o: Options)
+fn third(to: &impl Print, text: &[u8], b: Board, o: Options) -> io::Result<()>
     requires { Within b }
 {
     let x = meter_runs::third(text, b, line_to_drop(o));
     let dropped = x.dropped;
     let sheet = x.sheet;
     if o.csv {
-        out::text(b"\n");
-        rows::header();
-        return rows::row(3, b.slots, sheet);
+        out::text(to, b"\n")?;
+        rows::header(to)?;
+        return rows::row(to, 3, b.slots, sheet);
     }
-    book::kept_heading(STDOUT_FILENO);
-    say_dropped(o, dropped);
-    printing::body(b, sheet);
+    book::kept_heading(to)?;
+    say_dropped(to, o, dropped)?;
+    printing::body(to, b, sheet)
 }
 
 // Prints what is asked for of a board.
-fn show(text: &[u8], b: Board, o: Options)
+fn show(to: &impl Print, text: &[u8], b: Board, o: Options) -> io::Result<()>
     requires { Within b }
 {
     if o.sizes {
-        return sizes::all(text, b, o.csv);
+        return sizes::all(to, text, b, o.csv);
     }
     if o.script {
-        return script::run(text, b);
+        return script::run(to, text, b);
     }
-    both(b, meter_runs::both(text, b, b.slots), o.csv);
+    both(to, b, meter_runs::both(text, b, b.slots), o.csv)?;
     if o.keep {
-        return third(text, b, o);
+        return third(to, text, b, o);
     }
     if o.drop {
-        return third(text, b, o);
+        return third(to, text, b, o);
     }
+    Ok(())
 }
 
 // Reads the board of a text and prints what is asked for, or says the text's first error.
-fn measure(path: &[u8], text: &[u8], o: Options) {
+fn measure(
+    to: &impl Print,
+    err: &impl Print,
+    path: &[u8],
+    text: &[u8],
+    o: Options,
+) -> io::Result<()> {
     let b = board::read(text);
     if b.error != 0 {
-        return refuse(path, b.line, b.error);
+        return refuse(err, path, b.line, b.error);
     }
     let l = meter_runs::laid(text, b);
     if l.error != 0 {
-        return refuse(path, l.line, l.error);
+        return refuse(err, path, l.line, l.error);
     }
-    show(text, b, o);
+    show(to, text, b, o)
+}
+
+// The file at a path, opened to be read; a path that is not UTF-8 is refused.
+fn opened<R: Files>(rt: &R, path: &[u8]) -> io::Result<R::File> {
+    match str::from_utf8(path) {
+        Ok(path) => fs::open(rt, path),
+        Err(_) => Err(io::Error::from_raw_os_error(84)),
+    }
+}
+
+// Reads until a buffer is full, the file ends or a read fails, and answers how many bytes lie at the buffer's start.
+fn read_full(file: &mut impl Read, text: &mut [u8]) -> usize
+    ensures { result ≤ length text.new }
+{
+    let mut done = 0;
+    while done < text.len() {
+        let n = match file.read(&mut text[done..]) {
+            Ok(n) => n,
+            Err(_) => 0,
+        };
+        if n == 0 {
+            break;
+        }
+        done += n;
+    }
+    done
 }
 
 // Reads a file and measures its board.
-fn file(path: &[u8], o: Options) {
-    let fd = os::open_read(path);
-    if fd < 0 {
-        return os::fail(path);
-    }
-    let mut text = io::large_buffer();
-    let n = io::read_full(fd, &mut text);
-    libc::close(fd);
+fn file<R: Files + Alloc>(
+    rt: &R,
+    to: &impl Print,
+    err: &impl Print,
+    path: &[u8],
+    o: Options,
+) -> io::Result<()> {
+    let mut file = match opened(rt, path) {
+        Ok(file) => file,
+        Err(e) => return fail(err, rt.alloc(), path, e),
+    };
+    let mut text = [0u8; 65536];
+    let n = read_full(&mut file, &mut text);
+    drop(file);
     if n == 65536 {
-        io::write_all(
-            STDERR_FILENO,
+        return err.write_all(
             b"meter: the file is too long: a board file has fewer than 65536 bytes\n",
         );
-        return;
     }
-    measure(path, &text[..n], o);
+    measure(to, err, path, &text[..n], o)
 }
 
-fn main() {
-    let o = meter_options::read();
+fn main(rt: HostRuntime) -> io::Result<()> {
+    let err = rt.stderr();
+    let o = meter_options::read(&rt);
     if o.wrong {
-        return usage();
+        return usage(&err);
     }
-    let mut path = io::buffer();
-    let n = os::arg(o.path, &mut path);
-    file(&path[..n], o);
+    let mut path = [0u8; 4096];
+    let n = match rt.arg(o.path, &mut path) {
+        Ok(n) => n,
+        Err(_) => 0,
+    };
+    file(&rt, &rt, &err, &path[..n], o)
 }
