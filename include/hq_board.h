@@ -1,4 +1,4 @@
-/* The SP board for programs in C: the functions of the crate board, in crates/board/out/libboard.a (x86-64 Linux; of the C library it needs memcpy and memset).
+/* The SP board for programs in C: the functions of the crate board, in crates/board/out/libboard.a (x86-64 Linux; of the C library it needs memcpy, memmove and memset).
  *
  * What is lent
  * - The host owns one processor record and every buffer. A call borrows them until it returns, keeps no pointer, allocates nothing and has no state of its own,
