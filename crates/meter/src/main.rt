@@ -146,11 +146,14 @@ fn measure(
     show(to, text, b, o)
 }
 
+// The system's number for bytes that are no text, EILSEQ.
+const NO_TEXT: i32 = 84;
+
 // The file at a path, opened to be read; a path that is not UTF-8 is refused.
 fn opened<R: Files>(rt: &R, path: &[u8]) -> io::Result<R::File> {
     match str::from_utf8(path) {
         Ok(path) => fs::open(rt, path),
-        Err(_) => Err(io::Error::from_raw_os_error(84)),
+        Err(_) => Err(io::Error::from_raw_os_error(NO_TEXT)),
     }
 }
 
