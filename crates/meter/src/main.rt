@@ -2,6 +2,7 @@
 // several sizes, or the answers of its script.
 #![tactic(auto)]
 
+mod said;
 mod script;
 mod sizes;
 
@@ -14,7 +15,6 @@ use host::answer::Report;
 use meter_options::Options;
 use meter_pages::{book, out, printing, rows};
 use sheets::running::Sheets;
-use std::alloc::Allocator;
 use std::io::Read;
 use std::rt::{Env, Files};
 use std::{fs, io};
@@ -38,20 +38,12 @@ fn usage(to: &impl Print) -> io::Result<()> {
     )
 }
 
-// An error's text without the system's number behind it.
-fn words_of(said: &str) -> &str {
-    match said.split_once(" (os error ") {
-        Some((words, _)) => words,
-        None => said,
-    }
-}
-
 // Says what the system refused to do with a path, in the system's own words.
-fn fail<A: Allocator>(to: &impl Print, alloc: A, path: &[u8], e: io::Error) -> io::Result<()> {
-    let said = e.to_string(alloc)?;
+fn fail(to: &impl Print, path: &[u8], e: io::Error) -> io::Result<()> {
+    let said = said::of(&e);
     to.write_all(path)?;
     to.write_all(b": ")?;
-    to.write_all(words_of(said.as_str()).as_bytes())?;
+    to.write_all(said.words())?;
     to.write_all(b"\n")
 }
 
@@ -176,7 +168,7 @@ fn read_full(file: &mut impl Read, text: &mut [u8]) -> usize
 }
 
 // Reads a file and measures its board.
-fn file<R: Files + Alloc>(
+fn file<R: Files>(
     rt: &R,
     to: &impl Print,
     err: &impl Print,
@@ -185,7 +177,7 @@ fn file<R: Files + Alloc>(
 ) -> io::Result<()> {
     let mut file = match opened(rt, path) {
         Ok(file) => file,
-        Err(e) => return fail(err, rt.alloc(), path, e),
+        Err(e) => return fail(err, path, e),
     };
     let mut text = [0u8; 65536];
     let n = read_full(&mut file, &mut text);
