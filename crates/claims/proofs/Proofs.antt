@@ -5,8 +5,8 @@ use Rattle.ciphers.specs.Cipher.{aes_cipher}
 use Rattle.ciphers.proofs.Laws.{aes_laws}
 use Rattle.claims.specs.Claims.{Demand3, MarkedCases}
 
-pub a-cache_changes_the_counts_and_nothing_else : Demand3
-a-cache_changes_the_counts_and_nothing_else = demand3-from-reset aes_cipher aes_laws
+pub a_cache_changes_the_counts_and_nothing_else : Demand3
+a_cache_changes_the_counts_and_nothing_else = demand3-from-reset aes_cipher aes_laws
 
 pub the_marked_cases_hold : MarkedCases
 the_marked_cases_hold = marked aes_cipher

@@ -80,9 +80,9 @@ pub cleared-after-reset : (was : r.Processor) {key : List ℕ} (p : Processor)
     → AfterReset p
 cleared-after-reset was p h = record { was = was; cleared = h.record' }
 
-pub a-cache_changes_the_counts_and_nothing_else : Demand3AtTheCode
+pub a_cache_changes_the_counts_and_nothing_else : Demand3AtTheCode
 unfolding as_it_stands
-a-cache_changes_the_counts_and_nothing_else p behind mem macs C b z e lo hi calls bs session =
+a_cache_changes_the_counts_and_nothing_else p behind mem macs C b z e lo hi calls bs session =
     all_same calls _ session _
     (rw behind.cleared
     (demand3-from-reset aes_cipher aes_laws _ mem macs behind.was C
