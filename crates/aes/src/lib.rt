@@ -22,18 +22,11 @@ pub fn encipher(w: &[u32; 44], block: &[u8; 16]) -> [u8; 16]
 }
 
 // Cipher: a block under the words of a key schedule goes to out.
-//
-// Each word is laid down right after it is read: so its four bytes become one store, and whoever reads the block by
-// words next need not wait.
 pub fn encipher_to(w: &[u32; 44], block: &[u8; 16], out: &mut [u8; 16])
     ensures { out.new ≡ cipher w.now block.now }
 {
     let t = tables::mixed();
-    let x = ways::through(&t, &t, w, columns::columns_of(block));
-    columns::put_word(x.a, out, 0);
-    columns::put_word(x.b, out, 4);
-    columns::put_word(x.c, out, 8);
-    columns::put_word(x.d, out, 12);
+    columns::store(ways::through(&t, &t, w, columns::columns_of(block)), out, 0);
 }
 
 // InvCipher: a block under a key.

@@ -1,25 +1,27 @@
--- A row that is filled record by record from the first on, as far as the plan says, is what the meaning's listing
--- gives.
-use mathlib.Core.Path.{◌≡◌, refl, sym, ap, subst, ◌∙◌}
-use Prim.Native.Nat.{ℕ, zero, suc, ◌+◌, ◌≤◌, zero-le}
-use native.Mathlib.Nat.{le_refl}
+-- A row that is filled whole, record by record from the first on, is what the meaning's listing gives.
+use mathlib.Core.Path.{◌≡◌, refl, sym, ap, ◌∙◌}
+use Prim.Native.Nat.{ℕ, zero, suc, ◌+◌}
 use native.Mathlib.Omega.{arith}
-use mathlib.Core.Bool.{Bool, true, false, not}
+use mathlib.Core.Bool.{not}
 use mathlib.Core.List.{List, [], ◌∷◌, map}
-use lib.Dec.{eqb}
 use lib.ListN.{length, set, length-set, replicate, length-replicate}
-use borrow.Author.Tests.{eq-eqb, ne_eqb}
-use Rattle.lists.specs.If.{if}
-use Rattle.lists.proofs.Cases.{by-eq}
+use borrow.Author.Tests.{eqb-true, ne_eqb, not-false}
+use lib.Dec.{eqb}
 use Rattle.model.specs.Placement.{Entry, Placement, empty}
 use Rattle.directory.specs.Direct.{direct}
 use Rattle.instructions.specs.Rules.{first_of}
 use Rattle.instructions.specs.Board.{document_board}
-use Rattle.instructions.specs.Refusals.{or_else, row_flaws}
+use Rattle.instructions.specs.Refusals.{row_flaws}
+use Rattle.instructions.proofs.RuleLaws.{first_of-none, or_else-none}
 use Rattle.instructions.specs.Listing.{entries_from, listing_refusal, listing}
-use Rattle.board.specs.declared.listing.Plan.{Plan}
 use Rattle.machine.specs.Lent.{Lent, machine_in}
-use Rattle.board.specs.Listed.{Lists, Plans}
+use Rattle.board.specs.Listed.{Lists}
+use Rattle.answers.specs.declared.refusals.Refusal.{Refusal}
+use Rattle.answers.specs.Numbers.{refusal_number}
+use Rattle.machine.specs.declared.answer.Report.{Report}
+use Rattle.model.specs.Log.{no_counts}
+use Rattle.host.specs.Outcome.{Reports}
+use Rattle.host.proofs.Refusing.{some_number}
 use Rattle.host.specs.declared.listing.LineRecord.{LineRecord}
 use Rattle.host.specs.Row.{row_of}
 
@@ -61,17 +63,11 @@ module _ (P : Placement) (dir : List ℕ) where
       filled-from 0 (row_at P dir) ys (λ j. ap (row_at P dir) (here j))
 
 -- ---- a listing that is not refused has a row of as many records as there are slots
-second_none : (a b : ℕ) → or_else a b ≡ 0 → b ≡ 0
-unfolding or_else
-second_none a b e =
-    by-eq a 0 (λ z. sym (ap (λ (t : Bool). if t b a) (eq-eqb a 0 z))
-    ∙ e) (λ d. absurd (d (sym (ap (λ (t : Bool). if t b a) (ne_eqb a 0 d)) ∙ e)))
-
 row_fits : (rows : ℕ) (dir : List ℕ) → first_of (row_flaws rows dir) ≡ 0 → rows ≡ length dir
 unfolding row_flaws
 row_fits rows dir e =
-    by-eq rows (length dir) (λ z. z) (λ d. let h : 110 ≡ 0 = sym
-    (ap (λ (t : Bool). if (not t) 110 0) (ne_eqb rows (length dir) d)) ∙ e in omega (arith, h))
+    let same = first_of-none (not (eqb rows (length dir))) 110 0 (λ q. omega arith) e in
+    eqb-true rows (length dir) (not-false (eqb rows (length dir)) same.0)
 
 module _ (l : Lent) (ys : List LineRecord) where
   abbrev refused : ℕ → ℕ
@@ -79,43 +75,31 @@ module _ (l : Lent) (ys : List LineRecord) where
 
   as_many : (rows : ℕ) → refused rows ≡ 0 → rows ≡ length l.dir
   unfolding listing_refusal
-  as_many rows e = row_fits rows l.dir (second_none _ _ (second_none _ _ e))
+  as_many rows e = row_fits rows l.dir (or_else-none _ _ (or_else-none _ _ e).1).1
 
   abbrev entries : List Entry
   entries = entries_from direct l.dir (length l.dir) 0
 
-  -- the row after the plan for the refusal n is carried out, and the meaning's
-  abbrev row : ℕ → List LineRecord
-  row n = if (eqb n 0) (map row_of (if (eqb n 0) entries (replicate (length ys) empty))) ys
-
-  abbrev up_to : ℕ → List LineRecord
-  up_to n = written (row_at direct l.dir) n ys
-
-  carried : refused (length ys) ≡ 0 → up_to (length ys) ≡ map row_of entries
+  carried : refused (length ys) ≡ 0 → written (row_at direct l.dir) (length ys) ys ≡ map row_of entries
   carried e = filled_whole direct l.dir ys ∙ ap (λ (c : ℕ). map row_of (entries_from direct l.dir c 0))
       (as_many (length ys) e)
-
-  carried-out : (n : ℕ) → n ≡ refused (length ys) → up_to (if (eqb n 0) (length ys) 0) ≡ row n
-  carried-out n is =
-      by-eq n 0 (λ z. rw (eq-eqb n 0 z) (carried (sym is ∙ z))) (λ d. rw (ne_eqb n 0 d))
 
   -- refused by the length of the row, or by that of as many empty entries
   same-refusal : refused (length ys) ≡ refused (length (replicate (length ys) empty))
   same-refusal = ap refused (sym (length-replicate (length ys) empty))
 
-  pub lists : (k : Plan) → Plans (refused (length ys)) (length ys) k → Lists l ys k.report (up_to k.count)
+  -- a row that is refused
+  pub refused-lists : {x : Report} (e : Refusal) → refusal_number e ≡ refused (length ys)
+      → Reports (refusal_number e) no_counts x → Lists l ys x ys
   unfolding listing document_board
-  lists k plan =
-      record {
-        reported = rw (← same-refusal) plan.reported;
-        filled = ap up_to plan.filled ∙ carried-out (refused (length ys)) refl ∙ ap row same-refusal;
-      }
+  refused-lists e is r =
+      let number = is ∙ same-refusal in
+      record { reported = rw number at r; filled = rw (← number, ne_eqb (refusal_number e) 0 (some_number e)) }
 
-  -- no more records are filled than there are
-  pub plan_within : (k : Plan) → Plans (refused (length ys)) (length ys) k → k.count ≤ length ys
-  plan_within k plan = subst (λ (c : ℕ). c ≤ length ys) (sym plan.filled)
-      (by_bool (eqb (refused (length ys)) 0))
-    where
-      by_bool : (t : Bool) → if t (length ys) 0 ≤ length ys
-      by_bool true = le_refl (length ys)
-      by_bool false = zero-le
+  -- one that is filled whole
+  pub filled-lists : {x : Report} → 0 ≡ refused (length ys) → Reports 0 no_counts x
+      → Lists l ys x (written (row_at direct l.dir) (length ys) ys)
+  unfolding listing document_board
+  filled-lists is r =
+      let number = is ∙ same-refusal in
+      record { reported = rw number at r; filled = rw (← number) (carried (sym is)) }

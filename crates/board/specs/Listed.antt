@@ -10,12 +10,6 @@ use Rattle.machine.specs.Lent.{Lent, machine_in}
 use Rattle.host.specs.declared.listing.LineRecord.{LineRecord}
 use Rattle.host.specs.Outcome.{Reports}
 use Rattle.host.specs.Row.{row_of}
-use Rattle.board.specs.declared.listing.Plan.{Plan}
-
--- A row of so many records is filled whole, or, refused, not at all; nothing is counted.
-pub record Plans (refusal rows : ℕ) (k : Plan) : Type 0 where
-  pub filled : k.count ≡ if (eqb refusal 0) rows 0
-  pub reported : Reports refusal no_counts k.report
 
 -- The meaning's listing on the machine that was lent, into a row of so many empty entries: they are all overwritten,
 -- or the call is refused.

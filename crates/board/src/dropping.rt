@@ -4,6 +4,7 @@ ghost use Rattle.instructions.specs.Calls.{evict_line, write_back_all};
 ghost use Rattle.machine.specs.Lent.{before, after};
 ghost use Rattle.host.specs.Outcome.{Leaves};
 
+use cache::buffers::Buffers;
 use machine::answer::Report;
 use registers::record::Processor;
 
@@ -20,7 +21,13 @@ pub extern "C" fn hq_evict_line(
     ensures { Leaves (evict_line n) (before p.old mem macs cache dir) result []
         (after p.new mem macs cache dir) }
 {
-    let a = host::dropping::evict_line(*p, mem, macs, cache, dir, n);
+    let mut buffers = Buffers {
+        mem,
+        macs,
+        cache,
+        dir,
+    };
+    let a = host::dropping::evict_line(*p, &mut buffers, n);
     *p = a.processor;
     a.report
 }
@@ -37,7 +44,13 @@ pub extern "C" fn hq_write_back(
     ensures { Leaves write_back_all (before p.old mem macs cache dir) result []
         (after p.new mem macs cache dir) }
 {
-    let a = host::dropping::write_back(*p, mem, macs, cache, dir);
+    let mut buffers = Buffers {
+        mem,
+        macs,
+        cache,
+        dir,
+    };
+    let a = host::dropping::write_back(*p, &mut buffers);
     *p = a.processor;
     a.report
 }

@@ -4,6 +4,7 @@ ghost use Rattle.instructions.specs.Calls.{reboot, power_cut};
 ghost use Rattle.machine.specs.Lent.{before, after};
 ghost use Rattle.host.specs.Outcome.{Leaves};
 
+use cache::buffers::Buffers;
 use machine::answer::Report;
 use registers::record::Processor;
 
@@ -19,7 +20,13 @@ pub extern "C" fn hq_reboot(
     ensures { Leaves reboot (before p.old mem macs cache dir) result []
         (after p.new mem macs cache dir) }
 {
-    let a = host::restarts::reboot(*p, mem, macs, cache, dir);
+    let mut buffers = Buffers {
+        mem,
+        macs,
+        cache,
+        dir,
+    };
+    let a = host::restarts::reboot(*p, &mut buffers);
     *p = a.processor;
     a.report
 }
@@ -36,7 +43,13 @@ pub extern "C" fn hq_power_cut(
     ensures { Leaves power_cut (before p.old mem macs cache dir) result []
         (after p.new mem macs cache dir) }
 {
-    let a = host::restarts::power_cut(*p, mem, macs, cache, dir);
+    let mut buffers = Buffers {
+        mem,
+        macs,
+        cache,
+        dir,
+    };
+    let a = host::restarts::power_cut(*p, &mut buffers);
     *p = a.processor;
     a.report
 }

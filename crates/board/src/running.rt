@@ -4,6 +4,7 @@ ghost use Rattle.instructions.specs.Calls.{run, interrupt};
 ghost use Rattle.machine.specs.Lent.{before, after};
 ghost use Rattle.host.specs.Outcome.{Leaves};
 
+use cache::buffers::Buffers;
 use machine::answer::Report;
 use registers::record::Processor;
 
@@ -20,7 +21,13 @@ pub extern "C" fn hq_run(
     ensures { Leaves (run n) (before p.old mem macs cache dir) result [] (after p.new
         mem macs cache dir) }
 {
-    let a = host::running::run(*p, mem, macs, cache, dir, n);
+    let mut buffers = Buffers {
+        mem,
+        macs,
+        cache,
+        dir,
+    };
+    let a = host::running::run(*p, &mut buffers, n);
     *p = a.processor;
     a.report
 }
@@ -37,7 +44,13 @@ pub extern "C" fn hq_interrupt(
     ensures { Leaves interrupt (before p.old mem macs cache dir) result []
         (after p.new mem macs cache dir) }
 {
-    let a = host::running::interrupt(*p, mem, macs, cache, dir);
+    let mut buffers = Buffers {
+        mem,
+        macs,
+        cache,
+        dir,
+    };
+    let a = host::running::interrupt(*p, &mut buffers);
     *p = a.processor;
     a.report
 }

@@ -3,6 +3,7 @@ ghost use Rattle.instructions.specs.Calls.{bus_read, bus_write, bus_mac};
 ghost use Rattle.machine.specs.Lent.{before, after};
 ghost use Rattle.host.specs.Outcome.{Leaves};
 
+use cache::buffers::Buffers;
 use machine::answer::Report;
 use registers::record::Processor;
 
@@ -20,7 +21,13 @@ pub extern "C" fn hq_bus_read(
     ensures { Leaves (bus_read n line.old) (before p.old mem macs cache dir)
         result line.new (after p.new mem macs cache dir) }
 {
-    let a = host::transfers::bus_read(*p, mem, macs, cache, dir, line, n);
+    let mut buffers = Buffers {
+        mem,
+        macs,
+        cache,
+        dir,
+    };
+    let a = host::transfers::bus_read(*p, &mut buffers, line, n);
     *p = a.processor;
     a.report
 }
@@ -39,7 +46,13 @@ pub extern "C" fn hq_bus_write(
     ensures { Leaves (bus_write n line.now) (before p.old mem macs cache dir)
         result line.now (after p.new mem macs cache dir) }
 {
-    let a = host::transfers::bus_write(*p, mem, macs, cache, dir, line, n);
+    let mut buffers = Buffers {
+        mem,
+        macs,
+        cache,
+        dir,
+    };
+    let a = host::transfers::bus_write(*p, &mut buffers, line, n);
     *p = a.processor;
     a.report
 }
@@ -58,7 +71,13 @@ pub extern "C" fn hq_bus_write_mac(
     ensures { Leaves (bus_mac n mac.now) (before p.old mem macs cache dir)
         result mac.now (after p.new mem macs cache dir) }
 {
-    let a = host::transfers::bus_write_mac(*p, mem, macs, cache, dir, mac, n);
+    let mut buffers = Buffers {
+        mem,
+        macs,
+        cache,
+        dir,
+    };
+    let a = host::transfers::bus_write_mac(*p, &mut buffers, mac, n);
     *p = a.processor;
     a.report
 }

@@ -1,233 +1,172 @@
 // The board that a file says: its sizes, keys, registers at the start, and how many instructions its sheets run.
-ghost use Rattle.std.specs.Prelude.{◌≡◌, ◌<◌, length};
-ghost use Rattle.board_file.specs.Boards.{Within, Read};
+ghost use Rattle.std.specs.Prelude.{◌≡◌, ◌%◌, ◌<◌, ◌≤◌, length, IfOk, OnOk, OnErr};
+ghost use Rattle.std.specs.Option.{ForSome};
+ghost use Rattle.std.specs.Result.{result_ok};
+ghost use Rattle.board_file.specs.Boards.{Whole, Read};
 
-use board_numbers::errors;
+use board_numbers::errors::{FileError, Misread};
+use board_text::names::{Kind, Setting};
 use board_text::statement::Statement;
-use board_text::{names, statement};
+use board_text::{lines, statement};
+use sealing::Drk;
 
-// A board; error is 0, or a number of `errors` with the line where it was met. said[k]: statement k was met; said[32 +
-// i]: register i was.
-#[derive(Clone, Copy)]
+// A board.
+// Kept: `Within` is a clause and no invariant, since meter_runs::start and the pages take any board.
+#[derive(Clone, Copy, Debug, PartialEq, Eq)]
 pub struct Board {
     pub memory: usize,
     pub slots: usize,
-    pub drkhi: u64,
-    pub drklo: u64,
+    pub drk: Drk,
     pub srh: [u64; 4],
     pub pc: u64,
     pub steps: u64,
     pub registers: [u64; 32],
-    pub said: [bool; 64],
-    pub error: u32,
-    pub line: u64,
 }
 
-// A board of which nothing is said.
-fn unsaid() -> Board
-    ensures { (Within result) × (result.error ≡ 0) × (result.line ≡ 0) }
+// A size of memory.
+fn memory_of(size: u64) -> Result<usize, FileError>
+    ensures { IfOk result (λ n. (0 < n) × (n ≤ 65536) × (n % 64 ≡ 0)) }
 {
-    Board {
-        memory: 0,
-        slots: 0,
-        drkhi: 0,
-        drklo: 0,
-        srh: [0; 4],
-        pc: 0,
-        steps: 0,
-        registers: [0; 32],
-        said: [false; 64],
-        error: 0,
-        line: 0,
+    if size < 128 || 65536 < size || size % 64 != 0 {
+        return Err(FileError::MemorySize);
     }
+    Ok(size as usize)
 }
 
-// A board with an error.
-fn refused(b: Board, error: u32) -> Board
-    requires { Within b }
-    ensures { (Within result) × (result.line ≡ b.line) × (result.error ≡ error) }
+// A number of slots.
+fn slots_of(count: u64) -> Result<usize, FileError>
+    ensures { IfOk result (λ n. (0 < n) × (n ≤ 64)) }
 {
-    let mut q = b;
-    q.error = error;
-    q
+    if count < 1 || 64 < count {
+        return Err(FileError::SlotCount);
+    }
+    Ok(count as usize)
 }
 
-// A board with its memory's size.
-fn with_memory(b: Board, size: u64) -> Board
-    requires { Within b }
-    ensures { (Within result) × (result.line ≡ b.line) }
+// A number of instructions to run.
+fn steps_of(count: u64) -> Result<u64, FileError>
+    ensures { IfOk result (λ n. n ≤ 10000) }
 {
-    if size < 128 {
-        return refused(b, errors::MEMORY_SIZE);
+    if 10000 < count {
+        return Err(FileError::TooManySteps);
     }
-    if 65536 < size {
-        return refused(b, errors::MEMORY_SIZE);
-    }
-    if size % 64 != 0 {
-        return refused(b, errors::MEMORY_SIZE);
-    }
-    let mut q = b;
-    q.memory = size as usize;
-    q
+    Ok(count)
 }
 
-// A board with its number of slots.
-fn with_slots(b: Board, slots: u64) -> Board
-    requires { Within b }
-    ensures { (Within result) × (result.line ≡ b.line) }
+// Notes what may be said once, and was not said before.
+fn say<T: Copy>(place: &mut Option<T>, value: Result<T, FileError>) -> Result<(), FileError>
+    ensures said { OnOk result (place.new ≡ result_ok value) }
+    ensures refused { OnErr result (place.new ≡ place.old) }
 {
-    if slots < 1 {
-        return refused(b, errors::SLOT_COUNT);
+    if place.is_some() {
+        return Err(FileError::SaidTwice);
     }
-    if 64 < slots {
-        return refused(b, errors::SLOT_COUNT);
-    }
-    let mut q = b;
-    q.slots = slots as usize;
-    q
+    *place = Some(value?);
+    Ok(())
 }
 
-// A board with the number of instructions to run.
-fn with_steps(b: Board, steps: u64) -> Board
-    requires { Within b }
-    ensures { (Within result) × (result.line ≡ b.line) }
-{
-    if 10000 < steps {
-        return refused(b, errors::TOO_MANY_STEPS);
-    }
-    let mut q = b;
-    q.steps = steps;
-    q
+// What a text has said of its board so far.
+#[derive(Clone, Copy)]
+struct Draft {
+    memory: Option<usize>,
+    slots: Option<usize>,
+    drk: Option<Drk>,
+    srh: Option<[u64; 4]>,
+    pc: Option<u64>,
+    steps: Option<u64>,
+    registers: [Option<u64>; 32],
+    ghost memory_fits: { ForSome memory (λ n. (0 < n) × (n ≤ 65536) × (n % 64 ≡ 0)) },
+    ghost slots_fit: { ForSome slots (λ n. (0 < n) × (n ≤ 64)) },
+    ghost steps_fit: { ForSome steps (λ n. n ≤ 10000) },
 }
 
-// A board with its DRK.
-fn with_drk(b: Board, high: u64, low: u64) -> Board
-    requires { Within b }
-    ensures { (Within result) × (result.line ≡ b.line) }
-{
-    let mut q = b;
-    q.drkhi = high;
-    q.drklo = low;
-    q
-}
+impl Draft {
+    // Nothing said.
+    fn new() -> Draft {
+        Draft {
+            memory: None,
+            slots: None,
+            drk: None,
+            srh: None,
+            pc: None,
+            steps: None,
+            registers: [None; 32],
+        }
+    }
 
-// A board with its SRH, word 0 first.
-fn with_srh(b: Board, numbers: [u64; 17]) -> Board
-    requires { Within b }
-    ensures { (Within result) × (result.line ≡ b.line) }
-{
-    let mut q = b;
-    q.srh[0] = numbers[0];
-    q.srh[1] = numbers[1];
-    q.srh[2] = numbers[2];
-    q.srh[3] = numbers[3];
-    q
-}
+    // A register at the start.
+    fn set_register(&mut self, number: u64, value: u64) -> Result<(), FileError> {
+        if number == 0 {
+            return Err(FileError::RegisterZero);
+        }
+        say(&mut self.registers[(number % 32) as usize], Ok(value))
+    }
 
-// A board with the address at which it starts.
-fn with_pc(b: Board, pc: u64) -> Board
-    requires { Within b }
-    ensures { (Within result) × (result.line ≡ b.line) }
-{
-    let mut q = b;
-    q.pc = pc;
-    q
-}
+    // What a statement says of the board.
+    fn set(&mut self, setting: Setting, s: &Statement) -> Result<(), FileError> {
+        let first = s.value(0);
+        match setting {
+            Setting::Memory => say(&mut self.memory, memory_of(first)),
+            Setting::Slots => say(&mut self.slots, slots_of(first)),
+            Setting::Drk => say(
+                &mut self.drk,
+                Ok(Drk {
+                    high: first,
+                    low: s.value(1),
+                }),
+            ),
+            Setting::Srh => say(
+                &mut self.srh,
+                Ok([first, s.value(1), s.value(2), s.value(3)]),
+            ),
+            Setting::Pc => say(&mut self.pc, Ok(first)),
+            Setting::Steps => say(&mut self.steps, steps_of(first)),
+            Setting::Register => self.set_register(first, s.value(1)),
+        }
+    }
 
-// A board with a register at the start.
-fn with_register(b: Board, number: u64, value: u64) -> Board
-    requires { Within b }
-    ensures { (Within result) × (result.line ≡ b.line) }
-{
-    if number == 0 {
-        return refused(b, errors::REGISTER_ZERO);
+    // What a line says of the board.
+    fn take(&mut self, line: &[u8]) -> Result<(), FileError> {
+        let Some(statement) = statement::read(line)? else {
+            return Ok(());
+        };
+        match statement.kind {
+            Kind::Setting(setting) => self.set(setting, &statement),
+            _ => Ok(()),
+        }
     }
-    let i = (number % 32) as usize;
-    let mut q = b;
-    q.registers[i] = value;
-    q
-}
 
-// A board with what a statement says of it, which was not said before.
-fn with_setting(b: Board, kind: usize, n: [u64; 17]) -> Board
-    requires { Within b }
-    ensures { (Within result) × (result.line ≡ b.line) }
-{
-    match kind {
-        names::MEMORY => with_memory(b, n[0]),
-        names::SLOTS => with_slots(b, n[0]),
-        names::DRK => with_drk(b, n[0], n[1]),
-        names::SRH => with_srh(b, n),
-        names::PC => with_pc(b, n[0]),
-        names::STEPS => with_steps(b, n[0]),
-        names::REG => with_register(b, n[0], n[1]),
-        _ => b,
+    // The board at the end of its text: its memory and its slots have to be said.
+    fn finished(self) -> Result<Board, FileError>
+        ensures { IfOk result Whole }
+    {
+        let memory = self.memory.ok_or(FileError::NoMemory)?;
+        let slots = self.slots.ok_or(FileError::NoSlots)?;
+        Ok(Board {
+            memory,
+            slots,
+            drk: self.drk.unwrap_or(Drk { high: 0, low: 0 }),
+            srh: self.srh.unwrap_or([0; 4]),
+            pc: self.pc.unwrap_or(0),
+            steps: self.steps.unwrap_or(0),
+            registers: self.registers.map(|said| said.unwrap_or(0)),
+        })
     }
-}
-
-// Where it is noted that a statement was met, 64 where it may stand twice.
-fn note_of(kind: usize, first: u64) -> usize {
-    if kind == names::REG {
-        return 32 + (first % 32) as usize;
-    }
-    if kind < names::REG {
-        return kind;
-    }
-    64
-}
-
-// A board with a statement more.
-fn with(b: Board, s: Statement) -> Board
-    requires { Within b }
-    ensures { (Within result) × (result.line ≡ b.line) }
-{
-    if s.error != 0 {
-        return refused(b, s.error);
-    }
-    let n = s.numbers;
-    let note = note_of(s.kind, n[0]);
-    if 63 < note {
-        return b;
-    }
-    let said = b.said;
-    if said[note] {
-        return refused(b, errors::SAID_TWICE);
-    }
-    let mut q = b;
-    q.said[note] = true;
-    with_setting(q, s.kind, n)
-}
-
-// A board at the end of its text: its memory and its slots have to be said.
-fn ended(b: Board) -> Board
-    requires { Within b }
-    ensures { (Within result) × (result.line ≡ b.line) × (result.error ≡ 0 → 0 < result.memory)
-        × (result.error ≡ 0 → 0 < result.slots) }
-{
-    if b.memory == 0 {
-        return refused(b, errors::NO_MEMORY);
-    }
-    if b.slots == 0 {
-        return refused(b, errors::NO_SLOTS);
-    }
-    b
 }
 
 // The board that a text says, or its first error and the error's line.
-pub fn read(text: &[u8]) -> Board
+pub fn read(text: &[u8]) -> Result<Board, Misread>
     ensures { Read (length text.now) result }
 {
-    let mut b = unsaid();
-    let mut at: usize = 0;
-    while at < text.len() {
-        let s = statement::read(text, at);
-        b.line += 1;
-        let more = with(b, s);
-        b = more;
-        if b.error != 0 {
-            return b;
-        }
-        at = s.next;
+    let mut draft = Draft::new();
+    let mut last = 0;
+    for line in lines::of(text) {
+        last = line.number;
+        draft
+            .take(line.text)
+            .map_err(|error| Misread { line: last, error })?;
     }
-    ended(b)
+    draft
+        .finished()
+        .map_err(|error| Misread { line: last, error })
 }

@@ -1,34 +1,93 @@
-// The numbers of a board file's errors; docs/METER.md lists them with their names.
-pub const UNKNOWN_WORD: u32 = 201;
+// What can be wrong with a board file; docs/METER.md lists the errors by number and name.
+ghost use Rattle.std.specs.Prelude.{◌≡◌};
+ghost use Rattle.board_numbers.specs.Errors.{number_of_error};
 
-pub const NO_NUMBER: u32 = 202;
+use std::error::Error;
+use std::fmt;
 
-pub const TOO_LARGE: u32 = 203;
+// An error of a board file.
+#[derive(Clone, Copy, Debug, PartialEq, Eq)]
+pub enum FileError {
+    UnknownWord = 201,
+    NoNumber = 202,
+    TooLarge = 203,
+    Registers = 204,
+    LeftOver = 205,
+    TooFew = 206,
+    NotInMemory = 207,
+    LineTwice = 208,
+    NoLineOpen = 209,
+    LineFull = 210,
+    SaidTwice = 211,
+    NoMemory = 212,
+    NoSlots = 213,
+    MemorySize = 214,
+    SlotCount = 215,
+    TooManySteps = 216,
+    RegisterZero = 217,
+}
 
-pub const REGISTERS: u32 = 204;
+impl FileError {
+    // The error's number, from 201 on.
+    pub fn number(self) -> u32
+        ensures { result ≡ number_of_error self }
+    {
+        self as u32
+    }
 
-pub const LEFT_OVER: u32 = 205;
+    // The error's name and a sentence that says when it comes.
+    pub fn sentence(self) -> &'static str {
+        match self {
+            FileError::UnknownWord => {
+                "unknown-word: the line begins with no statement and no instruction"
+            }
+            FileError::NoNumber => {
+                "no-number: a number is expected, as 12, -3 or 0x1f, or a register, as r5"
+            }
+            FileError::TooLarge => "too-large: a number is larger than its place allows",
+            FileError::Registers => {
+                "registers: a register stands where a number is expected, or a number where a register is"
+            }
+            FileError::LeftOver => "left-over: there are more numbers than the statement takes",
+            FileError::TooFew => "too-few: there are fewer numbers than the statement takes",
+            FileError::NotInMemory => "not-in-memory: the board's memory has no such line",
+            FileError::LineTwice => "line-twice: the line was laid before",
+            FileError::NoLineOpen => {
+                "no-line-open: no plain, code or data line stands before this"
+            }
+            FileError::LineFull => "line-full: the line has no room for another word",
+            FileError::SaidTwice => "said-twice: this was said before",
+            FileError::NoMemory => "no-memory: the file does not say the size of memory",
+            FileError::NoSlots => "no-slots: the file does not say the number of slots",
+            FileError::MemorySize => {
+                "memory-size: memory is a multiple of 64 bytes, from 128 to 65536"
+            }
+            FileError::SlotCount => "slot-count: a cache has 1 to 64 slots",
+            FileError::TooManySteps => "too-many-steps: a run has at most 10000 steps",
+            FileError::RegisterZero => "register-zero: r0 is always zero",
+        }
+    }
+}
 
-pub const TOO_FEW: u32 = 206;
+impl fmt::Display for FileError {
+    fn fmt<W: fmt::Write>(&self, f: &mut fmt::Formatter<W>) -> fmt::Result {
+        write!(f, "{} {}", self.number(), self.sentence())
+    }
+}
 
-pub const NOT_IN_MEMORY: u32 = 207;
+impl Error for FileError {}
 
-pub const LINE_TWICE: u32 = 208;
+// An error of a board file, and the line where it was met: 1 for the first, 0 where the text has none.
+#[derive(Clone, Copy, Debug, PartialEq, Eq)]
+pub struct Misread {
+    pub line: u64,
+    pub error: FileError,
+}
 
-pub const NO_LINE_OPEN: u32 = 209;
+impl fmt::Display for Misread {
+    fn fmt<W: fmt::Write>(&self, f: &mut fmt::Formatter<W>) -> fmt::Result {
+        write!(f, "line {}: error {}", self.line, self.error)
+    }
+}
 
-pub const LINE_FULL: u32 = 210;
-
-pub const SAID_TWICE: u32 = 211;
-
-pub const NO_MEMORY: u32 = 212;
-
-pub const NO_SLOTS: u32 = 213;
-
-pub const MEMORY_SIZE: u32 = 214;
-
-pub const SLOT_COUNT: u32 = 215;
-
-pub const TOO_MANY_STEPS: u32 = 216;
-
-pub const REGISTER_ZERO: u32 = 217;
+impl Error for Misread {}

@@ -1,144 +1,85 @@
 // Numbers as they stand in a board file: decimal, 0x and hexadecimal digits, a minus sign, or a register r0 to r31.
-ghost use Rattle.std.specs.Prelude.{◌≡◌, ◌-◌, ◌%◌, ◌^◌, ◌<◌, ◌≤◌, true, false, length};
-ghost use Rattle.board_numbers.specs.Digits.{digit_of, value_of, zero_of, number_of};
+ghost use Rattle.std.specs.Prelude.{◌≡◌, ◌-◌, ◌%◌, ◌^◌, ◌<◌, ◌≤◌, length, IfOk};
+ghost use Rattle.board_numbers.specs.Digits.{value_of, number_of};
+ghost use Rattle.board_numbers.specs.Numbers.{said_by};
 
-use crate::errors;
+use crate::errors::FileError;
 
-// A number that was read: its value, whether it is a register's, and an error or 0.
-#[derive(Clone, Copy)]
-pub struct Number {
-    pub value: u64,
-    pub is_register: bool,
-    pub error: u32,
+// A number that was read: a plain one, or a register's.
+#[derive(Clone, Copy, Debug, PartialEq, Eq)]
+pub enum Number {
+    Plain(u64),
+    Register(u64),
 }
 
-// A number read rightly.
-fn right(value: u64) -> Number
-    ensures { (result.error ≡ 0) × (result.value ≡ value) }
-{
-    Number {
-        value,
-        is_register: false,
-        error: 0,
-    }
-}
-
-// A number that was refused.
-fn wrong(error: u32) -> Number
-    ensures { result.error ≡ error }
-{
-    Number {
-        value: 0,
-        is_register: false,
-        error,
+impl Number {
+    // What it says: its value, or which register it is.
+    pub fn value(self) -> u64
+        ensures { result ≡ said_by self }
+    {
+        match self {
+            Number::Plain(n) | Number::Register(n) => n,
+        }
     }
 }
 
-// The value of a digit, 16 where it is none.
-fn digit(c: u8) -> u64
-    ensures { (result ≡ digit_of c) × (result ≤ 16) }
-{
-    if c < b'0' {
-        return 16;
+impl Default for Number {
+    fn default() -> Number {
+        Number::Plain(0)
     }
-    if c <= b'9' {
-        return (c - b'0') as u64;
-    }
-    if c < b'A' {
-        return 16;
-    }
-    if c <= b'F' {
-        return (c - b'A') as u64 + 10;
-    }
-    if c < b'a' {
-        return 16;
-    }
-    if c <= b'f' {
-        return (c - b'a') as u64 + 10;
-    }
-    16
 }
 
 // The number whose digits a text has, in base 10 or 16.
-fn digits(text: &[u8], base: u64) -> Number
-    requires { 1 < base }
-    ensures { result.error ≡ 0 → result.value ≡ value_of base text.now }
+fn digits(text: &[u8], base: u32) -> Result<u64, FileError>
+    requires low { 2 ≤ base }
+    requires high { base ≤ 16 }
+    ensures value { IfOk result (λ n. n ≡ value_of base text.now) }
+    ensures any { IfOk result (λ n. 0 < length text.now) }
 {
-    if text.len() == 0 {
-        return wrong(errors::NO_NUMBER);
+    if text.is_empty() {
+        return Err(FileError::NoNumber);
     }
     let mut value: u64 = 0;
-    let mut i: usize = 0;
-    while i < text.len() {
-        let d = digit(text[i]);
-        if base <= d {
-            return wrong(errors::NO_NUMBER);
-        }
-        if (u64::MAX - d) / base < value {
-            return wrong(errors::TOO_LARGE);
-        }
-        value = value * base + d;
-        i += 1;
+    for c in text {
+        let digit = char::from(*c).to_digit(base).ok_or(FileError::NoNumber)?;
+        let shifted = value
+            .checked_mul(u64::from(base))
+            .ok_or(FileError::TooLarge)?;
+        value = shifted
+            .checked_add(u64::from(digit))
+            .ok_or(FileError::TooLarge)?;
     }
-    right(value)
+    Ok(value)
 }
 
 // A number with a minus sign before it, modulo 2^64.
-fn negated(n: Number) -> Number
-    ensures { result.error ≡ 0 → (n.error ≡ 0) × (result.value ≡ (2 ^ 64 - n.value) % 2 ^ 64) }
+fn negated(n: u64) -> Result<u64, FileError>
+    ensures { IfOk result (λ m. m ≡ (2 ^ 64 - n) % 2 ^ 64) }
 {
-    if n.error != 0 {
-        return n;
+    if 1 << 63 < n {
+        return Err(FileError::TooLarge);
     }
-    if 1 << 63 < n.value {
-        return wrong(errors::TOO_LARGE);
-    }
-    right(std::num::wrapping_sub_u64(0, n.value))
+    Ok(n.wrapping_neg())
 }
 
-// The register of a number.
-fn register(n: Number) -> Number
-    ensures { result.error ≡ 0 → (n.error ≡ 0) × (result.value ≡ n.value) }
+// A register's number, up to 31.
+fn register(n: u64) -> Result<u64, FileError>
+    ensures { IfOk result (λ m. m ≡ n) }
 {
-    if n.error != 0 {
-        return n;
+    if 31 < n {
+        return Err(FileError::TooLarge);
     }
-    if 31 < n.value {
-        return wrong(errors::TOO_LARGE);
-    }
-    Number {
-        value: n.value,
-        is_register: true,
-        error: 0,
-    }
-}
-
-// The number of a word that begins with 0: hexadecimal behind 0x.
-fn after_zero(word: &[u8]) -> Number
-    requires { 2 ≤ length word.now }
-    ensures { result.error ≡ 0 → result.value ≡ zero_of word.now }
-{
-    if word[1] == b'x' {
-        return digits(&word[2..], 16);
-    }
-    digits(word, 10)
+    Ok(n)
 }
 
 // The number that a word says.
-pub fn read(word: &[u8]) -> Number
-    ensures { result.error ≡ 0 → result.value ≡ number_of word.now }
+pub fn read(word: &[u8]) -> Result<Number, FileError>
+    ensures { IfOk result (λ n. said_by n ≡ number_of word.now) }
 {
-    if word.len() < 2 {
-        return digits(word, 10);
+    match word {
+        [b'-', rest @ ..] => Ok(Number::Plain(negated(digits(rest, 10)?)?)),
+        [b'r', rest @ ..] => Ok(Number::Register(register(digits(rest, 10)?)?)),
+        [b'0', b'x', rest @ ..] => Ok(Number::Plain(digits(rest, 16)?)),
+        _ => Ok(Number::Plain(digits(word, 10)?)),
     }
-    if word[0] == b'-' {
-        return negated(digits(&word[1..], 10));
-    }
-    if word[0] == b'r' {
-        return register(digits(&word[1..], 10));
-    }
-    if word[0] == b'0' {
-        return after_zero(word);
-    }
-    digits(word, 10)
 }

@@ -1,6 +1,7 @@
-// The text of a board file: its words and its statements, each line read into a statement by value.
+// The text of a board file: its lines, its words, and the statement that each line makes.
 #![tactic(auto)]
 
+pub mod lines;
 pub mod names;
 mod shape;
 pub mod statement;

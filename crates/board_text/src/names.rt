@@ -1,125 +1,145 @@
 // The words of a board file: the first word of a statement, or an instruction's name.
-ghost use Rattle.std.specs.Prelude.{◌≤◌, ◌+◌, ◌*◌, length};
+use board_numbers::errors::FileError;
+use opcodes::opcode::Opcode;
 
-// The statements' numbers; an instruction is INSTRUCTION and its opcode.
-pub const MEMORY: usize = 0;
-
-pub const SLOTS: usize = 1;
-
-pub const DRK: usize = 2;
-
-pub const SRH: usize = 3;
-
-pub const PC: usize = 4;
-
-pub const STEPS: usize = 5;
-
-pub const REG: usize = 6;
-
-pub const PLAIN: usize = 7;
-
-pub const CODE: usize = 8;
-
-pub const DATA: usize = 9;
-
-pub const WORD: usize = 10;
-
-pub const RUN: usize = 11;
-
-pub const INTERRUPT: usize = 12;
-
-pub const BUS_READ: usize = 13;
-
-pub const BUS_WRITE: usize = 14;
-
-pub const BUS_MAC: usize = 15;
-
-pub const DROP: usize = 16;
-
-pub const WRITE_BACK: usize = 17;
-
-pub const REBOOT: usize = 18;
-
-pub const POWER_CUT: usize = 19;
-
-pub const LIST: usize = 20;
-
-pub const INSTRUCTION: usize = 64;
-
-pub const UNKNOWN: usize = 21;
-
-pub const NOTHING: usize = 22;
-
-// Letter i of a word, a blank past its end.
-fn letter(word: &[u8], i: usize) -> u8 {
-    if i < word.len() {
-        return word[i];
-    }
-    b' '
+// What a statement says of the board, but for its lines.
+#[derive(Clone, Copy, Debug, PartialEq, Eq)]
+pub enum Setting {
+    Memory,
+    Slots,
+    Drk,
+    Srh,
+    Pc,
+    Steps,
+    Register,
 }
 
-// Whether the twelve letters of a table at a place are a word filled up with blanks.
-fn is_at(table: &[u8], from: usize, word: &[u8]) -> bool
-    requires { from + 12 ≤ length table.now }
-{
-    if 12 < word.len() {
-        return false;
-    }
-    let mut i: usize = 0;
-    while i < 12 {
-        if table[from + i] != letter(word, i) {
-            return false;
+// How the line that a statement opens is laid: as it stands, signed, or sealed.
+#[derive(Clone, Copy, Debug, PartialEq, Eq)]
+pub enum Use {
+    Plain,
+    Code,
+    Data,
+}
+
+// An operation of a script.
+#[derive(Clone, Copy, Debug, PartialEq, Eq)]
+pub enum Operation {
+    Run,
+    Interrupt,
+    BusRead,
+    BusWrite,
+    BusMac,
+    Drop,
+    WriteBack,
+    Reboot,
+    PowerCut,
+    List,
+}
+
+// What a statement is, by its first word.
+#[derive(Clone, Copy, Debug, PartialEq, Eq)]
+pub enum Kind {
+    Setting(Setting),
+    Line(Use),
+    Word,
+    Operation(Operation),
+    Instruction(Opcode),
+}
+
+impl Setting {
+    // The setting of a name.
+    fn named(word: &[u8]) -> Option<Setting> {
+        match word {
+            b"memory" => Some(Setting::Memory),
+            b"slots" => Some(Setting::Slots),
+            b"drk" => Some(Setting::Drk),
+            b"srh" => Some(Setting::Srh),
+            b"pc" => Some(Setting::Pc),
+            b"steps" => Some(Setting::Steps),
+            b"reg" => Some(Setting::Register),
+            _ => None,
         }
-        i += 1;
     }
-    true
 }
 
-// A word's number in a table of names of twelve letters each, or the table's size.
-fn find(table: &[u8], word: &[u8]) -> usize
-    ensures { result * 12 ≤ length table.now }
-{
-    let n = table.len() / 12;
-    let mut i: usize = 0;
-    while i < n {
-        if is_at(table, i * 12, word) {
-            return i;
+impl Use {
+    // The use of a name.
+    fn named(word: &[u8]) -> Option<Use> {
+        match word {
+            b"plain" => Some(Use::Plain),
+            b"code" => Some(Use::Code),
+            b"data" => Some(Use::Data),
+            _ => None,
         }
-        i += 1;
     }
-    n
 }
 
-// The number of a statement's first word.
-fn statement(word: &[u8]) -> usize {
-    let table =
-        b"memory      slots       drk         srh         pc          steps       reg         plain       \
-        code        data        word        run         interrupt   busread     buswrite    busmac      \
-        drop        writeback   reboot      powercut    list        ";
-    find(table, word)
+impl Operation {
+    // The operation of a name.
+    fn named(word: &[u8]) -> Option<Operation> {
+        match word {
+            b"run" => Some(Operation::Run),
+            b"interrupt" => Some(Operation::Interrupt),
+            b"busread" => Some(Operation::BusRead),
+            b"buswrite" => Some(Operation::BusWrite),
+            b"busmac" => Some(Operation::BusMac),
+            b"drop" => Some(Operation::Drop),
+            b"writeback" => Some(Operation::WriteBack),
+            b"reboot" => Some(Operation::Reboot),
+            b"powercut" => Some(Operation::PowerCut),
+            b"list" => Some(Operation::List),
+            _ => None,
+        }
+    }
 }
 
-// The opcode of an instruction's name, 44 where there is none.
-fn opcode(word: &[u8]) -> usize {
-    let table =
-        b"            add         sub         and         or          xor         addi        clz         \
-        beq         jr          load        store       epc.get     epc.set     cause.get   ctx.set     \
-        rfi                                                                                             \
-        \x20                                                                                               \
-        drk.set     drk.lock    drk.derive  srh.get     srh.set     gr.get      gr.set      begin_cem.a \
-        end_cem     secure_load secure_storebegin_cem.u ";
-    find(table, word)
+// The instruction of a name.
+fn opcode_named(word: &[u8]) -> Option<Opcode> {
+    match word {
+        b"add" => Some(Opcode::Add),
+        b"sub" => Some(Opcode::Sub),
+        b"and" => Some(Opcode::And),
+        b"or" => Some(Opcode::Or),
+        b"xor" => Some(Opcode::Xor),
+        b"addi" => Some(Opcode::Addi),
+        b"clz" => Some(Opcode::Clz),
+        b"beq" => Some(Opcode::Beq),
+        b"jr" => Some(Opcode::Jr),
+        b"load" => Some(Opcode::Load),
+        b"store" => Some(Opcode::Store),
+        b"epc.get" => Some(Opcode::EpcGet),
+        b"epc.set" => Some(Opcode::EpcSet),
+        b"cause.get" => Some(Opcode::CauseGet),
+        b"ctx.set" => Some(Opcode::CtxSet),
+        b"rfi" => Some(Opcode::Rfi),
+        b"drk.set" => Some(Opcode::DrkSet),
+        b"drk.lock" => Some(Opcode::DrkLock),
+        b"drk.derive" => Some(Opcode::DrkDerive),
+        b"srh.get" => Some(Opcode::SrhGet),
+        b"srh.set" => Some(Opcode::SrhSet),
+        b"gr.get" => Some(Opcode::GrGet),
+        b"gr.set" => Some(Opcode::GrSet),
+        b"begin_cem.a" => Some(Opcode::BeginCemA),
+        b"end_cem" => Some(Opcode::EndCem),
+        b"secure_load" => Some(Opcode::SecureLoad),
+        b"secure_store" => Some(Opcode::SecureStore),
+        b"begin_cem.u" => Some(Opcode::BeginCemU),
+        _ => None,
+    }
 }
 
-// The number of a statement or of an instruction by its first word.
-pub(crate) fn kind_of(word: &[u8]) -> usize {
-    let k = statement(word);
-    if k < UNKNOWN {
-        return k;
+impl Kind {
+    // The kind of statement that a first word begins.
+    pub(crate) fn named(word: &[u8]) -> Result<Kind, FileError> {
+        if word == b"word".as_slice() {
+            return Ok(Kind::Word);
+        }
+        Setting::named(word)
+            .map(Kind::Setting)
+            .or_else(|| Use::named(word).map(Kind::Line))
+            .or_else(|| Operation::named(word).map(Kind::Operation))
+            .or_else(|| opcode_named(word).map(Kind::Instruction))
+            .ok_or(FileError::UnknownWord)
     }
-    let op = opcode(word);
-    if op < 44 {
-        return INSTRUCTION + op;
-    }
-    UNKNOWN
 }

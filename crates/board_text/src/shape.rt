@@ -1,28 +1,31 @@
 // What each statement asks: how many numbers, which of them are registers, and which are words of 32 bits.
-use crate::names;
+use crate::names::{Kind, Operation, Setting, Use};
+use board_numbers::errors::FileError;
+use board_numbers::number::Number;
+use opcodes::opcode::Opcode;
 
-// At least and at most so many numbers; of the first ones, bit i of registers says that number i is a register; from
-// number `words` on each is a word of 32 bits.
+// At least and at most so many numbers, of which so many first ones are registers and the others are not; the numbers
+// from `words` on, where that is said, have 32 bits.
 #[derive(Clone, Copy)]
-pub struct Shape {
-    pub least: usize,
-    pub most: usize,
-    pub registers: u32,
-    pub words: usize,
+pub(crate) struct Shape {
+    least: usize,
+    most: usize,
+    registers: usize,
+    words: Option<usize>,
 }
 
-// So many numbers, with registers among them, and no words of 32 bits.
-fn exactly(count: usize, registers: u32) -> Shape {
+// So many numbers, of which the first ones are registers, and no words of 32 bits.
+fn exactly(count: usize, registers: usize) -> Shape {
     Shape {
         least: count,
         most: count,
         registers,
-        words: 17,
+        words: None,
     }
 }
 
-// A line and up to so many words behind it, which are of 32 bits from number `words` on.
-fn line_with(most: usize, words: usize) -> Shape {
+// One number at least and no register; the numbers from a place on, where that is said, are words of 32 bits.
+fn up_to(most: usize, words: Option<usize>) -> Shape {
     Shape {
         least: 1,
         most,
@@ -31,49 +34,93 @@ fn line_with(most: usize, words: usize) -> Shape {
     }
 }
 
-// Up to 16 words of 32 bits.
-fn words() -> Shape {
-    Shape {
-        least: 1,
-        most: 16,
-        registers: 0,
-        words: 0,
+// What a statement of the board's own asks.
+fn of_setting(setting: Setting) -> Shape {
+    match setting {
+        Setting::Memory | Setting::Slots | Setting::Pc | Setting::Steps => exactly(1, 0),
+        Setting::Drk => exactly(2, 0),
+        Setting::Srh => exactly(4, 0),
+        Setting::Register => exactly(2, 1),
+    }
+}
+
+// What a statement that opens a line asks: the line's number, and the words behind it.
+fn of_use(used: Use) -> Shape {
+    match used {
+        Use::Plain => up_to(17, Some(1)),
+        Use::Code => up_to(13, Some(1)),
+        Use::Data => up_to(9, None),
+    }
+}
+
+// What an operation asks.
+fn of_operation(operation: Operation) -> Shape {
+    match operation {
+        Operation::Run | Operation::BusRead | Operation::Drop => exactly(1, 0),
+        Operation::BusWrite => up_to(17, Some(1)),
+        Operation::BusMac => up_to(5, Some(1)),
+        Operation::Interrupt
+        | Operation::WriteBack
+        | Operation::Reboot
+        | Operation::PowerCut
+        | Operation::List => exactly(0, 0),
     }
 }
 
 // What an instruction asks.
-fn of_opcode(op: usize) -> Shape {
-    match op {
-        1 | 2 | 3 | 4 | 5 => exactly(3, 7),
-        6 | 8 | 10 | 11 | 37 | 41 | 42 => exactly(3, 3),
-        7 | 15 | 32 | 34 => exactly(2, 3),
-        9 | 12 | 13 | 14 => exactly(1, 1),
-        38 => exactly(2, 1),
-        _ => exactly(0, 0),
+fn of_opcode(opcode: Opcode) -> Shape {
+    match opcode {
+        Opcode::Add | Opcode::Sub | Opcode::And | Opcode::Or | Opcode::Xor => exactly(3, 3),
+        Opcode::Addi
+        | Opcode::Beq
+        | Opcode::Load
+        | Opcode::Store
+        | Opcode::GrGet
+        | Opcode::SecureLoad
+        | Opcode::SecureStore => exactly(3, 2),
+        Opcode::Clz | Opcode::CtxSet | Opcode::DrkSet | Opcode::DrkDerive => exactly(2, 2),
+        Opcode::Jr | Opcode::EpcGet | Opcode::EpcSet | Opcode::CauseGet => exactly(1, 1),
+        Opcode::GrSet => exactly(2, 1),
+        Opcode::Rfi
+        | Opcode::DrkLock
+        | Opcode::SrhGet
+        | Opcode::SrhSet
+        | Opcode::BeginCemA
+        | Opcode::EndCem
+        | Opcode::BeginCemU => exactly(0, 0),
     }
 }
 
-// What a statement of the board asks.
-fn of_statement(kind: usize) -> Shape {
+// What a statement asks.
+pub(crate) fn of(kind: Kind) -> Shape {
     match kind {
-        names::DRK => exactly(2, 0),
-        names::SRH => exactly(4, 0),
-        names::REG => exactly(2, 1),
-        names::PLAIN | names::BUS_WRITE => line_with(17, 1),
-        names::CODE => line_with(13, 1),
-        names::DATA => line_with(9, 17),
-        names::BUS_MAC => line_with(5, 1),
-        names::WORD => words(),
-        names::MEMORY | names::SLOTS | names::PC | names::STEPS => exactly(1, 0),
-        names::RUN | names::BUS_READ | names::DROP => exactly(1, 0),
-        _ => exactly(0, 0),
+        Kind::Setting(setting) => of_setting(setting),
+        Kind::Line(used) => of_use(used),
+        Kind::Word => up_to(16, Some(0)),
+        Kind::Operation(operation) => of_operation(operation),
+        Kind::Instruction(opcode) => of_opcode(opcode),
     }
 }
 
-// What a statement or an instruction asks.
-pub(crate) fn of(kind: usize) -> Shape {
-    if kind < names::INSTRUCTION {
-        return of_statement(kind);
+impl Shape {
+    // Whether numbers are as they are asked, or the first thing that is wrong with them.
+    pub(crate) fn check(self, numbers: &[Number]) -> Result<(), FileError> {
+        if numbers.len() < self.least {
+            return Err(FileError::TooFew);
+        }
+        if self.most < numbers.len() {
+            return Err(FileError::LeftOver);
+        }
+        let registers = self.registers;
+        if !numbers.iter().enumerate().all(|(i, n)| matches!(n, Number::Register(_))
+            == (i < registers))
+        {
+            return Err(FileError::Registers);
+        }
+        let words = self.words.unwrap_or(numbers.len());
+        if numbers.iter().skip(words).any(|n| 0xffff_ffff < n.value()) {
+            return Err(FileError::TooLarge);
+        }
+        Ok(())
     }
-    of_opcode(kind - names::INSTRUCTION)
 }

@@ -1,88 +1,65 @@
 // The bus: a line read or written, a MAC entry written; each first evicts that line.
 #![tactic(auto)]
 
-ghost use Rattle.std.specs.Prelude.{◌≡◌, [], ◌+◌, ◌<◌, ◌≤◌, ◌/◌, length};
+ghost use Rattle.std.specs.Prelude.{◌≡◌, [], ◌<◌, ◌/◌, length};
 ghost use Rattle.std.proofs.Math.Option.{some};
-ghost use Rattle.lists.specs.Parts.{put_at};
+ghost use Rattle.model.specs.Lines.{line_at};
 ghost use Rattle.model.specs.Requests.{bus_read, bus_write, bus_mac};
-ghost use Rattle.cache.specs.Lent.{lent, counts_in, Fit};
-ghost use Rattle.bus.specs.Handles.{Handles, before, after};
+ghost use Rattle.cache.specs.Lent.{counts_in, Fit};
+ghost use Rattle.cache.specs.Held.{SameBuffers, memory_in};
+ghost use Rattle.bus.specs.Handles.{Handles};
 
+use cache::buffers::Buffers;
 use cache::slots::Counts;
-use cache::whole;
+use sealing::Drk;
+
+// Line n of a memory is copied out.
+fn load(mem: &[u8], n: usize, line: &mut [u8])
+    requires { (n < length mem.now / 64) × (length line.old ≡ 64) }
+    ensures { line.new ≡ line_at n mem.now }
+{
+    let a = n * 64;
+    line.copy_from_slice(&mem[a..a + 64]);
+}
 
 // Line n of memory goes to a buffer of 64 bytes.
-pub fn read(
-    hi: u64,
-    lo: u64,
-    mem: &mut [u8],
-    macs: &mut [u8],
-    cache: &mut [u8],
-    dir: &mut [u32],
-    n: usize,
-    line: &mut [u8],
-) -> Counts
-    requires fit { Fit (lent hi lo mem.old macs.old cache.old dir.old) }
-    requires n_in_bounds { (n < length mem.old / 64) × (length line.old ≡ 64) }
-    ensures { Handles (bus_read n) (before hi lo mem macs cache dir) (some line.new) (counts_in result)
-        (after hi lo mem macs cache dir) }
+pub fn read(drk: Drk, buffers: &mut Buffers, n: usize, line: &mut [u8]) -> Counts
+    requires fit { Fit (memory_in drk buffers.old) }
+    requires n_in_bounds { (n < length buffers.old.mem.now / 64) × (length line.old ≡ 64) }
+    ensures same { SameBuffers buffers.old buffers.new }
+    ensures handles { Handles (bus_read n) (memory_in drk buffers.old) (some line.new)
+        (counts_in result) (memory_in drk buffers.new) }
 {
-    let k = whole::drop_line(hi, lo, mem, macs, cache, dir, n);
-    let a = n * 64;
-    let e = a + 64;
-    line.copy_from_slice(&mem[a..e]);
+    let k = buffers.drop_line(drk, n);
+    let mem = &mut *buffers.mem;
+    load(mem, n, line);
     k
 }
 
-// A part goes to its place in a buffer.
-fn store(part: &[u8], whole: &mut [u8], a: usize)
-    requires { a + length part.now ≤ length whole.old }
-    ensures { whole.new
-        ≡ put_at a (length part.now) part.now whole.old }
-{
-    let e = a + part.len();
-    whole[a..e].copy_from_slice(part);
-}
-
 // A buffer of 64 bytes goes to line n of memory.
-pub fn write(
-    hi: u64,
-    lo: u64,
-    mem: &mut [u8],
-    macs: &mut [u8],
-    cache: &mut [u8],
-    dir: &mut [u32],
-    n: usize,
-    line: &[u8],
-) -> Counts
-    requires fit { Fit (lent hi lo mem.old macs.old cache.old dir.old) }
-    requires n_in_bounds { (n < length mem.old / 64) × (length line.now ≡ 64) }
-    ensures { Handles (bus_write n line.now) (before hi lo mem macs cache dir) (some [])
-        (counts_in result)
-        (after hi lo mem macs cache dir) }
+pub fn write(drk: Drk, buffers: &mut Buffers, n: usize, line: &[u8]) -> Counts
+    requires fit { Fit (memory_in drk buffers.old) }
+    requires n_in_bounds { (n < length buffers.old.mem.now / 64) × (length line.now ≡ 64) }
+    ensures same { SameBuffers buffers.old buffers.new }
+    ensures handles { Handles (bus_write n line.now) (memory_in drk buffers.old) (some [])
+        (counts_in result) (memory_in drk buffers.new) }
 {
-    let k = whole::drop_line(hi, lo, mem, macs, cache, dir, n);
-    store(line, mem, n * 64);
+    let k = buffers.drop_line(drk, n);
+    let a = n * 64;
+    buffers.mem[a..a + 64].copy_from_slice(line);
     k
 }
 
 // A buffer of 16 bytes goes to line n's entry in the MAC area.
-pub fn write_mac(
-    hi: u64,
-    lo: u64,
-    mem: &mut [u8],
-    macs: &mut [u8],
-    cache: &mut [u8],
-    dir: &mut [u32],
-    n: usize,
-    mac: &[u8],
-) -> Counts
-    requires fit { Fit (lent hi lo mem.old macs.old cache.old dir.old) }
-    requires n_in_bounds { (n < length mem.old / 64) × (length mac.now ≡ 16) }
-    ensures { Handles (bus_mac n mac.now) (before hi lo mem macs cache dir) (some []) (counts_in result)
-        (after hi lo mem macs cache dir) }
+pub fn write_mac(drk: Drk, buffers: &mut Buffers, n: usize, mac: &[u8]) -> Counts
+    requires fit { Fit (memory_in drk buffers.old) }
+    requires n_in_bounds { (n < length buffers.old.mem.now / 64) × (length mac.now ≡ 16) }
+    ensures same { SameBuffers buffers.old buffers.new }
+    ensures handles { Handles (bus_mac n mac.now) (memory_in drk buffers.old) (some [])
+        (counts_in result) (memory_in drk buffers.new) }
 {
-    let k = whole::drop_line(hi, lo, mem, macs, cache, dir, n);
-    store(mac, macs, n * 16);
+    let k = buffers.drop_line(drk, n);
+    let a = n * 16;
+    buffers.macs[a..a + 16].copy_from_slice(mac);
     k
 }

@@ -8,7 +8,7 @@ use lib.ListN.{length}
 use Rattle.lists.specs.Bytes.{zeros}
 use Rattle.lists.specs.Parts.{put_at}
 use Rattle.lists.proofs.PartLaws.{put-put, length_part}
-use Rattle.model.specs.Tags.{tag_number, tag_named}
+use Rattle.model.specs.Tags.{Tag}
 use Rattle.model.specs.Lines.{line_at, put_line, stored}
 use Rattle.model.specs.Log.{Note, Counts, no_counts, counts_of}
 use Rattle.model.specs.Placement.{Entry, Placement}
@@ -18,7 +18,6 @@ use Rattle.model.proofs.CachedRules.{evict-dirty, evict_clean, evict-free}
 use Rattle.model.proofs.LineLaws.{stored-length}
 use Rattle.directory.specs.Direct.{direct}
 use Rattle.directory.proofs.DirectLaws.{direct_laws}
-use Rattle.directory.proofs.TagLaws.{named-number}
 use Rattle.ciphers.specs.Cipher.{aes_cipher}
 use Rattle.ciphers.proofs.Laws.{aes_laws}
 use Rattle.cache.specs.Lent.{Fit}
@@ -68,18 +67,17 @@ module _ (P : Placement) (p : ℕ) (s : Cached) where
         left = λ i. record { key = s.key; mem = s.mem; macs = s.macs; cache = e.0 i; dir = e.1 i };
       })
 
-  pub evicts_dirty : (t n : ℕ) (mem' macs' cache₁ cache' dir' : List ℕ) (k : Counts)
-      → t ≡ tag_number here.tag → n ≡ here.line → here.used ≡ true → here.dirty ≡ true
+  pub evicts_dirty : (t : Tag) (n : ℕ) (mem' macs' cache₁ cache' dir' : List ℕ) (k : Counts)
+      → t ≡ here.tag → n ≡ here.line → here.used ≡ true → here.dirty ≡ true
       → p * 64 + 64 ≤ length s.cache
-      → WrittenBack (tag_named t) s.key n p s.mem s.macs s.cache mem' macs' cache₁
+      → WrittenBack t s.key n p s.mem s.macs s.cache mem' macs' cache₁
       → (cache' ≡ put_line p (zeros 64) cache₁) × (dir' ≡ P.clear s.dir p)
-      → ((n : ℕ) → k ≡ counts_of (Note.evicted (tag_named t) n true ∷ []))
+      → ((n : ℕ) → k ≡ counts_of (Note.evicted t n true ∷ []))
       → Does (evict_place aes_cipher P p s) true k
       (record { key = s.key; mem = mem'; macs = macs'; cache = cache'; dir = dir' })
   unfolding put_line line_at
   evicts_dirty t n mem' macs' cache₁ cache' dir' k et en u d fits written e m =
-      let tag : tag_named t ≡ here.tag = ap tag_named et ∙ named-number here.tag in
-      let w = rw (tag, en) at written in
+      let w = rw (et, en) at written in
       let body = line_at p s.cache in
       let x = stored aes_cipher here.tag s.key here.line body in
       let z : length x ≡ 64 =
@@ -91,6 +89,6 @@ module _ (P : Placement) (p : ℕ) (s : Cached) where
       rw (evict-dirty aes_cipher P p s u d)
       (record {
         answer = refl;
-        counted = rw tag at (m here.line);
+        counted = rw et at (m here.line);
         left = λ i. record { key = s.key; mem = w.memory i; macs = w.area i; cache = f i; dir = e.1 i };
       })

@@ -6,3 +6,4 @@ pub mod Filling
 pub mod Following
 pub mod Dropping
 pub mod Everything
+pub mod Same

@@ -1,20 +1,19 @@
 -- A part of a buffer that was lent and handed back, in the words of lines and MAC entries.
-use Prim.Native.Nat.{ℕ, ◌+◌, ◌-◌, ◌*◌, ◌≤◌}
+use Prim.Native.Nat.{ℕ, ◌+◌, ◌-◌, ◌*◌}
 use native.Mathlib.Omega.{arith}
 use mathlib.Core.Path.{◌≡◌, ap, ◌∙◌}
 use mathlib.Core.Bool.{Bool}
 use mathlib.Core.List.{List}
-use lib.ListN.{length, take, drop}
+use lib.ListN.{take, drop}
 use lib.Seq.{take-take}
 use borrow.Rule.Slice.PartMut.{mid_of, put_mid}
 use Rattle.lists.specs.Parts.{part_at, put_at}
-use Rattle.lists.specs.Bytes.{same}
-use Rattle.lists.proofs.PartLaws.{part_part, length_part}
+use Rattle.lists.specs.Bytes.{zeros, same}
+use Rattle.lists.proofs.PartLaws.{part_part}
 use Rattle.model.specs.Tags.{secure_instruction, secure_data}
 use Rattle.model.specs.Lines.{line_at, put_line, mac_at, put_mac, passes}
 use Rattle.sealing.specs.Lines.{data_mac, code_mac}
 use Rattle.ciphers.specs.Cipher.{aes_cipher}
-use Rattle.ciphers.proofs.Laws.{aes_laws}
 
 -- the part from a to a + k
 pub lent_part_lem : (a k : ℕ) (l : List ℕ) → mid_of a (a + k - a) l ≡ part_at a k l
@@ -30,8 +29,8 @@ part_back a k x l =
     rw e
 
 -- a copy over a whole part
-pub copied : (a : ℕ) (x l y : List ℕ) → y ≡ x → put_mid a (a + length x - a) l y ≡ put_at a (length x) x l
-copied a x l y e = rw e (part_back a (length x) x l)
+pub copied : (a k : ℕ) (x l y : List ℕ) → y ≡ x → put_mid a (a + k - a) l y ≡ put_at a k x l
+copied a k x l y e = rw e (part_back a k x l)
 
 -- a slot's bytes changed in place
 pub changed : (f : List ℕ → List ℕ) (p : ℕ) (l y : List ℕ)
@@ -42,24 +41,25 @@ changed f p l y e = part_back (p * 64) 64 y l ∙ ap (λ (z : List ℕ). put_at 
     (e ∙ ap f (lent_part_lem (p * 64) 64 l))
 
 -- a line copied from another buffer
-pub line-copied : (i j : ℕ) (m l r : List ℕ) → j * 64 + 64 ≤ length m
-    → r ≡ put_at (i * 64) (length (mid_of (j * 64) (j * 64 + 64 - j * 64) m))
-    (mid_of (j * 64) (j * 64 + 64 - j * 64) m) l → r ≡ put_line i (line_at j m) l
+pub line-copied : (i j : ℕ) (m l y : List ℕ) → y ≡ mid_of (j * 64) (j * 64 + 64 - j * 64) m
+    → put_mid (i * 64) (i * 64 + 64 - i * 64) l y ≡ put_line i (line_at j m) l
 unfolding put_line line_at
-line-copied i j m l r h e =
-    let k : length (part_at (j * 64) 64 m) ≡ 64 = length_part (j * 64) 64 m h in
-    rw (lent_part_lem (j * 64) 64 m) at e ∙ rw k
+line-copied i j m l y e =
+    part_back (i * 64) 64 y l ∙ ap (λ (z : List ℕ). put_at (i * 64) 64 z l) (e ∙ lent_part_lem (j * 64) 64 m)
+
+-- a line wiped
+pub wiped : (i : ℕ) (l y : List ℕ) → y ≡ zeros 64 → put_mid (i * 64) (i * 64 + 64 - i * 64) l y ≡ put_line i (zeros 64) l
+unfolding put_line
+wiped i l y e = part_back (i * 64) 64 y l ∙ ap (λ (z : List ℕ). put_at (i * 64) 64 z l) e
 
 -- a MAC entry made from a line
-pub mac-put : (n p : ℕ) (key mac m l r : List ℕ) → p * 64 + 64 ≤ length m
-    → mac ≡ data_mac key (n * 64) (mid_of (p * 64) (p * 64 + 64 - p * 64) m) → r ≡ put_at (n * 16) (length mac) mac
-    l → r ≡ put_mac n (data_mac key (n * 64) (line_at p m)) l
-unfolding put_mac line_at aes_cipher
-mac-put n p key mac m l r h e q =
-    let k : length (part_at (p * 64) 64 m) ≡ 64 = length_part (p * 64) 64 m h in
-    let z : length (data_mac key (n * 64) (part_at (p * 64) 64 m)) ≡ 16 = aes_laws.data_mac-length key (n * 64)
-    (part_at (p * 64) 64 m) k in
-    q ∙ (rw (e, lent_part_lem (p * 64) 64 m, z))
+pub mac-put : (n p : ℕ) (key mac m l y : List ℕ)
+    → mac ≡ data_mac key (n * 64) (mid_of (p * 64) (p * 64 + 64 - p * 64) m) → y ≡ mac
+    → put_mid (n * 16) (n * 16 + 16 - n * 16) l y ≡ put_mac n (data_mac key (n * 64) (line_at p m)) l
+unfolding put_mac line_at
+mac-put n p key mac m l y e q =
+    part_back (n * 16) 16 y l
+    ∙ ap (λ (z : List ℕ). put_at (n * 16) 16 z l) (q ∙ (e ∙ ap (data_mac key (n * 64)) (lent_part_lem (p * 64) 64 m)))
 
 -- the code bytes and the MAC of a code line
 code_part : (n : ℕ) (m : List ℕ) → take 48 (part_at (n * 64) 64 m) ≡ part_at (n * 64) 48 m

@@ -1,3 +1,4 @@
 -- What `cache` means, file by file.
 pub mod Lent
+pub mod Held
 pub mod Does

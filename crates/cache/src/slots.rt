@@ -2,21 +2,26 @@
 ghost use Rattle.std.specs.Prelude.{◌≡◌, Bool, true, [], ◌∷◌, ℕ, ◌*◌, ◌<◌, ◌≤◌, ◌/◌, ◌^◌, length};
 ghost use Rattle.lists.specs.Bytes.{zeros};
 ghost use Rattle.lists.specs.If.{if};
-ghost use Rattle.model.specs.Tags.{is_data, is_checked, tag_named};
+ghost use Rattle.model.specs.Tags.{is_data, is_checked};
 ghost use Rattle.model.specs.Lines.{put_line};
 ghost use Rattle.model.specs.Log.{Note, plus, no_counts, counts_of};
 ghost use Rattle.model.specs.Cached.{evict_place, fill_place, then_do};
 ghost use Rattle.directory.specs.Direct.{direct};
+ghost use Rattle.directory.specs.TagIn.{tag_in};
 ghost use Rattle.ciphers.specs.Cipher.{aes_cipher};
-ghost use Rattle.cache.specs.Lent.{lent, counts_in, Fit};
+ghost use Rattle.cache.specs.Lent.{counts_in, Fit};
+ghost use Rattle.cache.specs.Held.{SameBuffers, memory_in};
 ghost use Rattle.cache.specs.Does.{Does};
 
+use crate::buffers::Buffers;
 use crate::parts;
+use directory::tag::Tag;
 use directory::{number, place};
+use sealing::Drk;
 
 // Lines filled, dirty lines written, MACs checked, MACs made for lines.
 #[repr(C)]
-#[derive(Clone, Copy)]
+#[derive(Clone, Copy, Debug, PartialEq, Eq)]
 pub struct Counts {
     pub filled: u64,
     pub written: u64,
@@ -25,13 +30,16 @@ pub struct Counts {
 }
 
 // Whether a line is there, and what making it ready counted.
-#[derive(Clone, Copy)]
+//
+// Kept: a flag beside a value, and no Option or Result, since the counts are there in both cases.
+#[derive(Clone, Copy, Debug, PartialEq, Eq)]
 pub struct Ready {
     pub ok: bool,
     pub counts: Counts,
 }
 
 // Nothing was counted.
+#[tactic(auto, unfolding(model::specs::Log::no_counts))]
 pub fn none() -> Counts
     ensures { counts_in result ≡ no_counts }
 {
@@ -44,6 +52,7 @@ pub fn none() -> Counts
 }
 
 // Two counts together.
+#[tactic(auto, unfolding(model::specs::Log::plus))]
 pub fn add(a: Counts, b: Counts) -> Counts
     requires filled_bound { (a.filled ≤ 2 ^ 62) × (a.written ≤ 2 ^ 62) × (a.checked ≤ 2 ^ 62)
         × (a.made ≤ 2 ^ 62) }
@@ -59,144 +68,106 @@ pub fn add(a: Counts, b: Counts) -> Counts
     }
 }
 
-// A slot is emptied: number 0 and 64 zero bytes.
-pub fn empty(cache: &mut [u8], dir: &mut [u32], slot: usize)
-    requires cache_len { length cache.old ≡ length dir.old * 64 }
-    requires slot_in_bounds { slot < length dir.old }
-    ensures { (cache.new ≡ put_line slot (zeros 64) cache.old)
-        × (dir.new ≡ direct.clear dir.old slot) }
+// What writing back a line of the tag counts: a sealed line's MAC is made.
+fn written(tag: Tag) -> Counts
+    ensures { (n : ℕ) → counts_in result ≡ counts_of (Note.evicted (tag_in tag) n true ∷ []) }
 {
-    parts::wipe(cache, slot);
-    place::clear(dir, slot);
-}
-
-// How many MACs writing back a line of the tag makes.
-fn made_for(tag: u32) -> u64
-    ensures { result ≡ if (is_data (tag_named tag)) 1 0 }
-{
-    if tag == 2 {
-        return 1;
+    let made = if tag.is_data() { 1 } else { 0 };
+    Counts {
+        filled: 0,
+        written: 1,
+        checked: 0,
+        made,
     }
-    0
 }
 
-// How many MACs filling a line under the tag checks.
-fn checked_for(tag: u32) -> u64
-    ensures { result ≡ if (is_checked (tag_named tag)) 1 0 }
-{
-    if tag == 1 {
-        return 1;
-    }
-    if tag == 2 {
-        return 1;
-    }
-    0
-}
-
-// What writing back a line of the tag counts.
-fn written(tag: u32) -> Counts
-    ensures { (n : ℕ) → counts_in result ≡ counts_of (Note.evicted (tag_named tag) n true ∷ []) }
-{
-    let mut k = none();
-    k.written = 1;
-    k.made = made_for(tag);
-    k
-}
-
-// What filling a line under the tag counts, whether or not its check passed.
-fn filled(tag: u32) -> Counts
+// What filling a line under the tag counts, whether or not its check passed: a protected line is checked.
+fn filled(tag: Tag) -> Counts
     ensures { (n : ℕ) (ok : Bool)
-        → counts_in result ≡ counts_of (Note.filled (tag_named tag) n ok ∷ []) }
+        → counts_in result ≡ counts_of (Note.filled (tag_in tag) n ok ∷ []) }
 {
-    let mut k = none();
-    k.filled = 1;
-    k.checked = checked_for(tag);
-    k
+    let checked = if tag.is_checked() { 1 } else { 0 };
+    Counts {
+        filled: 1,
+        written: 0,
+        checked,
+        made: 0,
+    }
 }
 
-// A slot is evicted: a dirty line is written back, sealed and signed where it is Secure Data.
-pub fn evict(
-    hi: u64,
-    lo: u64,
-    mem: &mut [u8],
-    macs: &mut [u8],
-    cache: &mut [u8],
-    dir: &mut [u32],
-    slot: usize,
-) -> Counts
-    requires fit { Fit (lent hi lo mem.old macs.old cache.old dir.old) }
-    requires slot_in_bounds { slot < length dir.old }
-    ensures { Does (evict_place aes_cipher direct slot (lent hi lo mem.old macs.old
-        cache.old dir.old)) true (counts_in result) (lent hi lo mem.new macs.new
-        cache.new dir.new) }
-{
-    let d = dir[slot];
-    if !number::used(d) {
-        return none();
+impl Buffers<'_> {
+    // A slot is emptied: number 0 and 64 zero bytes.
+    pub fn empty(&mut self, slot: usize)
+        requires cache_len { length self.old.cache.now ≡ length self.old.dir.now * 64 }
+        requires slot_in_bounds { slot < length self.old.dir.now }
+        ensures same { SameBuffers self.old self.new }
+        ensures lines { (self.new.mem.now ≡ self.old.mem.now) × (self.new.macs.now ≡ self.old.macs.now) }
+        ensures emptied { (self.new.cache.now ≡ put_line slot (zeros 64) self.old.cache.now)
+            × (self.new.dir.now ≡ direct.clear self.old.dir.now slot) }
+    {
+        parts::wipe(self.cache, slot);
+        place::clear(self.dir, slot);
     }
-    if !number::dirty(d) {
-        empty(cache, dir, slot);
-        return none();
-    }
-    let tag = number::tag(d);
-    let n = number::line(d) as usize;
-    parts::write_back(hi, lo, mem, macs, cache, tag, n, slot);
-    empty(cache, dir, slot);
-    written(tag)
-}
 
-// Line n is filled into a slot under the tag: clean where its check passes, and otherwise the slot stays empty.
-fn fill(
-    hi: u64,
-    lo: u64,
-    mem: &[u8],
-    macs: &[u8],
-    cache: &mut [u8],
-    dir: &mut [u32],
-    tag: u32,
-    n: usize,
-    slot: usize,
-) -> Ready
-    requires fit { Fit (lent hi lo mem.now macs.now cache.old dir.old) }
-    requires slot_in_bounds { (slot < length dir.old) × (n < length mem.now / 64) × (tag ≤ 2) }
-    ensures { Does (fill_place aes_cipher direct (tag_named tag) n slot
-        (lent hi lo mem.now macs.now cache.old dir.old)) result.ok
-        (counts_in result.counts) (lent hi lo mem.now macs.now cache.new dir.new) }
-{
-    let counts = filled(tag);
-    if parts::right(hi, lo, mem, macs, tag, n) {
-        parts::bring(hi, lo, mem, cache, tag, n, slot);
-        place::put(dir, slot, n, tag, false);
-        place::touch(dir, slot);
-        return Ready { ok: true, counts };
+    // A slot is evicted: a dirty line is written back, sealed and signed where it is Secure Data.
+    pub fn evict(&mut self, drk: Drk, slot: usize) -> Counts
+        requires fit { Fit (memory_in drk self.old) }
+        requires slot_in_bounds { slot < length self.old.dir.now }
+        ensures same { SameBuffers self.old self.new }
+        ensures does { Does (evict_place aes_cipher direct slot (memory_in drk self.old)) true
+            (counts_in result) (memory_in drk self.new) }
+    {
+        let d = self.dir[slot];
+        if !number::used(d) {
+            return none();
+        }
+        if !number::dirty(d) {
+            self.empty(slot);
+            return none();
+        }
+        let tag = number::tag(d);
+        let n = number::line(d) as usize;
+        parts::write_back(drk, self.mem, self.macs, self.cache, tag, n, slot);
+        self.empty(slot);
+        written(tag)
     }
-    empty(cache, dir, slot);
-    Ready { ok: false, counts }
-}
 
-// Line n is made ready in a slot that does not serve it: the occupant is evicted, then the line is filled.
-pub fn replace(
-    hi: u64,
-    lo: u64,
-    mem: &mut [u8],
-    macs: &mut [u8],
-    cache: &mut [u8],
-    dir: &mut [u32],
-    tag: u32,
-    n: usize,
-    slot: usize,
-) -> Ready
-    requires fit { Fit (lent hi lo mem.old macs.old cache.old dir.old) }
-    requires slot_in_bounds { (slot < length dir.old) × (n < length mem.old / 64) × (tag ≤ 2) }
-    ensures { Does (then_do
-        (evict_place aes_cipher direct slot (lent hi lo mem.old macs.old cache.old
-        dir.old)) (fill_place aes_cipher direct (tag_named tag) n slot)) result.ok (counts_in result.counts)
-        (lent hi lo mem.new macs.new cache.new dir.new) }
-{
-    let k = evict(hi, lo, mem, macs, cache, dir, slot);
-    let f = fill(hi, lo, mem, macs, cache, dir, tag, n, slot);
-    Ready {
-        ok: f.ok,
-        counts: add(k, f.counts),
+    // Line n is filled into a slot under the tag: clean where its check passes, and otherwise the slot stays empty.
+    fn fill(&mut self, drk: Drk, tag: Tag, n: usize, slot: usize) -> Ready
+        requires fit { Fit (memory_in drk self.old) }
+        requires slot_in_bounds { (slot < length self.old.dir.now) × (n < length self.old.mem.now / 64) }
+        ensures same { SameBuffers self.old self.new }
+        ensures does { Does (fill_place aes_cipher direct (tag_in tag) n slot (memory_in drk self.old))
+            result.ok (counts_in result.counts) (memory_in drk self.new) }
+    {
+        let counts = filled(tag);
+        let mem = &mut *self.mem;
+        let macs = &mut *self.macs;
+        if parts::right(drk, mem, macs, tag, n) {
+            let cache = &mut *self.cache;
+            parts::bring(drk, mem, cache, tag, n, slot);
+            place::put(self.dir, slot, n, tag, false);
+            place::touch(self.dir, slot);
+            return Ready { ok: true, counts };
+        }
+        self.empty(slot);
+        Ready { ok: false, counts }
+    }
+
+    // Line n is made ready in a slot that does not serve it: the occupant is evicted, then the line is filled.
+    pub fn replace(&mut self, drk: Drk, tag: Tag, n: usize, slot: usize) -> Ready
+        requires fit { Fit (memory_in drk self.old) }
+        requires slot_in_bounds { (slot < length self.old.dir.now) × (n < length self.old.mem.now / 64) }
+        ensures same { SameBuffers self.old self.new }
+        ensures does { Does (then_do (evict_place aes_cipher direct slot (memory_in drk self.old))
+            (fill_place aes_cipher direct (tag_in tag) n slot)) result.ok (counts_in result.counts)
+            (memory_in drk self.new) }
+    {
+        let k = self.evict(drk, slot);
+        let f = self.fill(drk, tag, n, slot);
+        Ready {
+            ok: f.ok,
+            counts: add(k, f.counts),
+        }
     }
 }

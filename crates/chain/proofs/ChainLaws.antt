@@ -9,7 +9,6 @@ use lib.Seq.{take_at, drop_at, drop-drop, length-take-le}
 use Rattle.field.specs.Field.{◌⊕◌}
 use Rattle.lists.specs.Parts.{part_at, put_at}
 use Rattle.lists.proofs.PartLaws.{length-put}
-use Rattle.columns.specs.declared.Columns.{Columns}
 use Rattle.aes_standard.specs.State.{at, state, plus}
 use Rattle.aes_standard.specs.Cipher.{cipher, inv_cipher}
 use Rattle.schedule.specs.Inverse.{InverseKeys}
@@ -17,8 +16,6 @@ use Rattle.rounds.specs.Ways.{flipped, eq_inv_cipher}
 use Rattle.chain.specs.Equivalent.{eq_decrypt}
 use Rattle.aes_standard.specs.Schedule.{key_expansion}
 use Rattle.schedule.proofs.InverseLaws.{eq_inv_cipher-inv_cipher}
-use Rattle.columns.specs.Words.{four_words, block_of}
-use Rattle.columns.proofs.WordLaws.{bytes-⊕, bytes_of, four_bytes}
 use Rattle.aes_standard.specs.Chain.{chained, unchained, absorbed, last_of_chain, cbc_decrypt}
 use Rattle.columns.proofs.StoreLaws.{state-part_at}
 
@@ -151,19 +148,15 @@ unfolding plus
 link_is w l k before x y r h load add run = run
     ∙ ap (cipher w) (add ∙ ap (plus before) (load ∙ state-part_at l k h))
 
--- the code's way back from a block of a chain: its words, the second and the fourth changed about, plus those of the
+-- the code's way back from a block of a chain: its columns, the second and the fourth changed about, plus those of the
 -- block before
-pub unlink_is : (v l x : List ℕ) (k : ℕ) (z before : Columns) → k + 16 ≤ length l
-    → x ≡ state (λ i. at l (k + i))
-    → flipped (block_of z) ≡ eq_inv_cipher v x
-    → four_words (z.a ⊕ before.a) (z.d ⊕ before.b) (z.c ⊕ before.c) (z.b ⊕ before.d)
-    ≡ plus (eq_inv_cipher v (part_at k 16 l)) (block_of before)
-unfolding plus flipped
-unlink_is v l x k z before h load run =
-    four_bytes (bytes-⊕ (bytes_of refl) (bytes_of refl)) (bytes-⊕ (bytes_of refl) (bytes_of refl))
-    (bytes-⊕ (bytes_of refl) (bytes_of refl))
-    (bytes-⊕ (bytes_of refl) (bytes_of refl))
-    ∙ ap (λ (s : List ℕ). plus s (block_of before)) (run ∙ ap (eq_inv_cipher v) (load ∙ state-part_at l k h))
+pub unlink_is : (v l x : List ℕ) (k : ℕ) (z f before r : List ℕ) → k + 16 ≤ length l
+    → x ≡ state (λ i. at l (k + i)) → f ≡ flipped z → r ≡ state (λ i. at f i ⊕ at before i)
+    → flipped z ≡ eq_inv_cipher v x
+    → r ≡ plus (eq_inv_cipher v (part_at k 16 l)) before
+unfolding plus
+unlink_is v l x k z f before r h load turn add run = add
+    ∙ ap (λ (s : List ℕ). plus s before) (turn ∙ run ∙ ap (eq_inv_cipher v) (load ∙ state-part_at l k h))
 
 -- the start of a chain's last block, and a list with no whole block
 pub absorbed-start : (w : List ℕ) (n : ℕ) (before l : List ℕ)

@@ -34,10 +34,7 @@ fn unlink(t: &[u32; 256], u: &[u32; 256], v: &[u32; 44], before: Columns, b: &mu
     ensures { b.new ≡ unlinked v.now (block_of before) k b.old }
 {
     let x = ways::through(t, u, v, columns::flip(columns::columns_at(b, k)));
-    columns::put_word(x.a ^ before.a, b, k);
-    columns::put_word(x.d ^ before.b, b, k + 4);
-    columns::put_word(x.c ^ before.c, b, k + 8);
-    columns::put_word(x.b ^ before.d, b, k + 12);
+    columns::store(columns::plus(columns::flip(x), before), b, k);
 }
 
 // The last block of the chain over all whole blocks of b, after the block before.
@@ -50,11 +47,8 @@ pub fn absorb(w: &[u32; 44], before: &[u8; 16], b: &[u8]) -> [u8; 16]
     }
     let t = tables::mixed();
     let mut x = columns::columns_of(before);
-    let mut i: usize = 0;
-    while i < n {
-        let y = link(&t, w, x, b, i * 16);
-        x = y;
-        i += 1;
+    for i in 0..n {
+        x = link(&t, w, x, b, i * 16);
     }
     columns::bytes_of(x)
 }
@@ -66,13 +60,9 @@ pub fn encrypt(w: &[u32; 44], iv: &[u8; 16], b: &mut [u8])
     let t = tables::mixed();
     let n = b.len() / 16;
     let mut x = columns::columns_of(iv);
-    let mut i: usize = 0;
-    while i < n {
-        let k = i * 16;
-        let y = link(&t, w, x, b, k);
-        columns::store(y, b, k);
-        x = y;
-        i += 1;
+    for i in 0..n {
+        x = link(&t, w, x, b, i * 16);
+        columns::store(x, b, i * 16);
     }
 }
 
@@ -94,12 +84,9 @@ fn unchain(v: &[u32; 44], iv: &[u8; 16], b: &mut [u8])
     let u = tables::inv_sbox();
     let n = b.len() / 16;
     let mut x = columns::columns_of(iv);
-    let mut i: usize = 0;
-    while i < n {
-        let k = i * 16;
-        let c = columns::columns_at(b, k);
-        unlink(&t, &u, v, x, b, k);
+    for i in 0..n {
+        let c = columns::columns_at(b, i * 16);
+        unlink(&t, &u, v, x, b, i * 16);
         x = c;
-        i += 1;
     }
 }

@@ -10,13 +10,14 @@ ghost use Rattle.cmac.specs.Cmac.{cmac};
 ghost use Rattle.cmac.specs.Subkeys.{subkey1, subkey2};
 ghost use Rattle.sealing.specs.Lines.{drk_of, code_mac, data_mac, enciphered, deciphered};
 
+use sealing::Drk;
+
 // KeyExpansion: the 44 words of a key go to w.
 #[unsafe(no_mangle)]
 pub extern "C" fn hq_aes_expand(key: &[u8; 16], w: &mut [u32; 44])
     ensures { w.new ≡ key_expansion key.now }
 {
-    let r = aes::expand(key);
-    *w = r;
+    *w = aes::expand(key);
 }
 
 // Cipher: a block under the words of a key schedule goes to out.
@@ -32,8 +33,7 @@ pub extern "C" fn hq_aes_encipher(w: &[u32; 44], block: &[u8; 16], out: &mut [u8
 pub extern "C" fn hq_aes_decipher(key: &[u8; 16], block: &[u8; 16], out: &mut [u8; 16])
     ensures { out.new ≡ inv_cipher (key_expansion key.now) block.now }
 {
-    let r = aes::decipher(key, block);
-    *out = r;
+    *out = aes::decipher(key, block);
 }
 
 // CBC encryption of all whole blocks of a buffer, in place, under the words of a key schedule.
@@ -58,8 +58,7 @@ pub extern "C" fn hq_cbc_decrypt(key: &[u8; 16], iv: &[u8; 16], bytes: &mut [u8]
 pub extern "C" fn hq_cmac(w: &[u32; 44], m: &[u8], out: &mut [u8; 16])
     ensures { out.new ≡ cmac w.now m.now }
 {
-    let r = cmac::sign(w, m);
-    *out = r;
+    *out = cmac::sign(w, m);
 }
 
 // K1, CMAC's subkey for a whole last block, goes to out.
@@ -67,8 +66,7 @@ pub extern "C" fn hq_cmac(w: &[u32; 44], m: &[u8], out: &mut [u8; 16])
 pub extern "C" fn hq_cmac_subkey1(w: &[u32; 44], out: &mut [u8; 16])
     ensures { out.new ≡ subkey1 w.now }
 {
-    let r = cmac::subkey1(w);
-    *out = r;
+    *out = cmac::subkey1(w);
 }
 
 // K2, CMAC's subkey for a last block that is padded, goes to out.
@@ -76,8 +74,7 @@ pub extern "C" fn hq_cmac_subkey1(w: &[u32; 44], out: &mut [u8; 16])
 pub extern "C" fn hq_cmac_subkey2(w: &[u32; 44], out: &mut [u8; 16])
     ensures { out.new ≡ subkey2 w.now }
 {
-    let r = cmac::subkey2(w);
-    *out = r;
+    *out = cmac::subkey2(w);
 }
 
 // The MAC of the 48 code bytes of the line at an address goes to out, under a DRK of two words, the high one first.
@@ -85,8 +82,7 @@ pub extern "C" fn hq_cmac_subkey2(w: &[u32; 44], out: &mut [u8; 16])
 pub extern "C" fn hq_code_mac(hi: u64, lo: u64, address: u64, code: &[u8; 48], out: &mut [u8; 16])
     ensures { out.new ≡ code_mac (drk_of hi lo) address code.now }
 {
-    let r = sealing::code_mac(hi, lo, address, code);
-    *out = r;
+    *out = Drk { high: hi, low: lo }.code_mac(address, code);
 }
 
 // The MAC of the 64 encrypted bytes of the data line at an address goes to out, under a DRK of two words.
@@ -94,8 +90,7 @@ pub extern "C" fn hq_code_mac(hi: u64, lo: u64, address: u64, code: &[u8; 48], o
 pub extern "C" fn hq_data_mac(hi: u64, lo: u64, address: u64, line: &[u8; 64], out: &mut [u8; 16])
     ensures { out.new ≡ data_mac (drk_of hi lo) address line.now }
 {
-    let r = sealing::data_mac(hi, lo, address, line);
-    *out = r;
+    *out = Drk { high: hi, low: lo }.data_mac(address, line);
 }
 
 // Seals the data line at an address, in place, under a DRK of two words, the high one first.
@@ -103,7 +98,7 @@ pub extern "C" fn hq_data_mac(hi: u64, lo: u64, address: u64, line: &[u8; 64], o
 pub extern "C" fn hq_seal(hi: u64, lo: u64, address: u64, line: &mut [u8])
     ensures { line.new ≡ enciphered (drk_of hi lo) address line.old }
 {
-    sealing::seal(hi, lo, address, line);
+    Drk { high: hi, low: lo }.seal(address, line);
 }
 
 // Opens the sealed data line at an address, in place, under a DRK of two words, the high one first.
@@ -111,5 +106,5 @@ pub extern "C" fn hq_seal(hi: u64, lo: u64, address: u64, line: &mut [u8])
 pub extern "C" fn hq_unseal(hi: u64, lo: u64, address: u64, line: &mut [u8])
     ensures { line.new ≡ deciphered (drk_of hi lo) address line.old }
 {
-    sealing::unseal(hi, lo, address, line);
+    Drk { high: hi, low: lo }.unseal(address, line);
 }

@@ -1,9 +1,8 @@
 -- The subkeys of CMAC (SP 800-38B, section 6.1).
 use Rattle.std.specs.Prelude.{List, [], ◌∷◌, ℕ, ◌+◌, ◌*◌, ◌/◌, ◌%◌, drop}
 use Rattle.lists.specs.Bytes.{zeros}
-use Rattle.aes_standard.specs.State.{at, state, byte_of, plus}
+use Rattle.aes_standard.specs.State.{at, state, plus}
 use Rattle.aes_standard.specs.Cipher.{cipher}
-use Rattle.columns.specs.Words.{Bytes}
 
 -- A block shifted to the left by one digit: each byte doubled, with the highest digit of the byte behind it.
 unfoldable pub shifted : List ℕ → List ℕ
@@ -16,12 +15,6 @@ last_byte x = 0 ∷ 0 ∷ 0 ∷ 0 ∷ 0 ∷ 0 ∷ 0 ∷ 0 ∷ 0 ∷ 0 ∷ 0 ∷ 
 -- The next subkey: the block shifted, with 87 added to its last byte where its highest digit was set.
 unfoldable pub doubled : List ℕ → List ℕ
 doubled b = plus (shifted b) (last_byte (at b 0 / 128 * 0x87))
-
--- The word r is the word a shifted to the left by one digit, with the highest digit of the word b behind it.
-abbrev pub Shifted : ℕ → ℕ → ℕ → Type 0
-Shifted a b r =
-    Bytes r (byte_of a 0 % 128 * 2 + byte_of a 1 / 128) (byte_of a 1 % 128 * 2 + byte_of a 2 / 128)
-    (byte_of a 2 % 128 * 2 + byte_of a 3 / 128) (byte_of a 3 % 128 * 2 + byte_of b 0 / 128)
 
 -- K1: the cipher of a block of zeros, doubled once.
 unfoldable pub subkey1 : List ℕ → List ℕ

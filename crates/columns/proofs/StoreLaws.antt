@@ -12,6 +12,9 @@ use Rattle.lists.proofs.PartLaws.{length_part}
 use Rattle.aes_standard.specs.State.{at, state, byte_of}
 use Rattle.aes_standard.proofs.StateLaws.{tabulate, tabulated}
 use Rattle.columns.specs.Words.{four_words, four_set}
+use Rattle.aes_standard.proofs.WordBytes.{byte_of-last}
+use Rattle.std.specs.Int.{bytes_high_first}
+use borrow.Rule.Slice.PartMut.{put_mid}
 
 tabulate-same : (n : ℕ) (f g : ℕ → ℕ) → ((i : ℕ) → i < n → f i ≡ g i)
     → tabulate n f ≡ tabulate n g
@@ -81,3 +84,12 @@ four_words-stored l p q r z k a b c d h e f g i =
     (word_more (word_bytes a ++ word_bytes b) l q r k c
     (word_more (word_bytes a) l p q k b (e ∙ four_sets l k (byte_of a 0) (byte_of a 1) (byte_of a 2) (byte_of a 3)) f) g) i
     ∙ sets_put_at l k (four_words a b c d) h
+
+-- the four bytes of a word, copied from place k on
+pub word_laid : (l bytes : List ℕ) (k n x : ℕ) → k + 4 ≤ length l → n ≡ 4 → bytes ≡ bytes_high_first 4 x
+    → put_mid k n l bytes ≡ four_set l k (byte_of x 0) (byte_of x 1) (byte_of x 2) (byte_of x 3)
+unfolding byte_of put_at
+word_laid l bytes k n x h e f =
+    ap₂ (λ (m : ℕ) (ys : List ℕ). put_mid k m l ys) e
+    (f ∙ (λ i. byte_of x 0 ∷ byte_of x 1 ∷ byte_of x 2 ∷ byte_of-last x i ∷ []))
+    ∙ sym (four_sets l k (byte_of x 0) (byte_of x 1) (byte_of x 2) (byte_of x 3) ∙ sets_put_at l k (word_bytes x) h)

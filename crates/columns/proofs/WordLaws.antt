@@ -1,16 +1,20 @@
 -- Words and their bytes: the bytes of a sum, of a word made of bytes, and of a word that is turned.
 use mathlib.Core.Path.{◌≡◌, sym, ap, ap₂, ◌∙◌}
 use mathlib.Core.List.{List, [], ◌∷◌}
-use Prim.Native.Nat.{ℕ, ◌+◌, ◌-◌, ◌*◌, ◌/◌, ◌%◌, ◌^◌, ◌<◌}
+use Prim.Native.Nat.{ℕ, zero, suc, ◌+◌, ◌-◌, ◌*◌, ◌/◌, ◌%◌, ◌^◌, ◌<◌}
 use native.Mathlib.Nat.{add-zero, add_assoc, div-div-eq-div-mul}
 use native.Mathlib.Omega.{arith}
 use Rattle.field.specs.Field.{◌⊕◌}
 use Rattle.field.specs.Mixing.{word}
 use Rattle.aes_standard.specs.State.{at, state, byte_of}
-use Rattle.columns.specs.Words.{Bytes, WordAt, turned, four_words, four_set}
+use Rattle.aes_standard.specs.Schedule.{key_word}
+use Rattle.columns.specs.declared.Columns.{Columns}
+use Rattle.columns.specs.Words.{Bytes, WordAt, Loaded, turned, four_words, block_of}
+use Rattle.std.specs.Int.{rotate_right, w32}
+use Rattle.std.specs.Int.Bits.{bit_or, or_self}
+use Rattle.std.proofs.lemmas.Nat.{or_comm, or_shifted}
 use Rattle.aes_standard.proofs.WordBytes.{byte_of-lt}
 use Rattle.aes_standard.proofs.WordBytes.{byte_of-⊕}
-use Rattle.aes_standard.proofs.WordBytes.{byte_of-last}
 
 -- a word below 2^32 is the word of its bytes
 pub bytes_word : (w : ℕ) → w < 2 ^ 32 → word (byte_of w 0) (byte_of w 1) (byte_of w 2) (byte_of w 3) ≡ w
@@ -21,22 +25,32 @@ bytes_word w h =
     let e3 : w / 256 * 256 + w % 256 ≡ w = omega arith in
     omega arith
 
--- the two word_halves of a word, from its bytes
-pub word_halves : (w : ℕ) → w < 2 ^ 32
-    → (w / 65536 ≡ w / 16777216 % 256 * 256 + w / 65536 % 256) × (w % 65536 ≡ w / 256 % 256 * 256 + w % 256)
-word_halves w h = (omega (arith, div-div-eq-div-mul w 65536 256), omega (arith, div-div-eq-div-mul w 256 256))
+-- a word from its bytes
+pub word_is : (w p q r s : ℕ) → w < 2 ^ 32 → Bytes w p q r s → w ≡ word p q r s
+word_is w p q r s h b = sym (bytes_word w h) ∙ (λ i. word (b.byte0 i) (b.byte1 i) (b.byte2 i) (b.byte3 i))
 
-word_of_halves : (a b c d : ℕ) → (a * 256 + b) * 65536 + (c * 256 + d) ≡ word a b c d
-unfolding word
-word_of_halves a b c d = omega arith
+-- a word whose lower part goes in front, and the rest behind it
+in-front : (high low j : ℕ) → high < 2 ^ j → bit_or high (low * 2 ^ j) ≡ low * 2 ^ j + high
+in-front high low j h = or_comm high (low * 2 ^ j) ∙ or_shifted low j high h
 
--- the two word_halves of a word change places
-pub turned_two : (w : ℕ) → w < 2 ^ 32 → w % 65536 * 65536 + w / 65536 ≡ turned w 2
-unfolding turned byte_of word
-turned_two w h =
-    ap₂ (λ (x y : ℕ). x * 65536 + y) (word_halves w h).1 (word_halves w h).0
-    ∙ word_of_halves (w / 256 % 256) (w % 256) (w / 16777216 % 256) (w / 65536 % 256)
-    ∙ ap (λ (x : ℕ). word (w / 256 % 256) x (w / 16777216 % 256) (w / 65536 % 256)) (byte_of-last w)
+-- a rotation by whole bytes, as std takes it
+pub turned_is : (x n : ℕ) → n < 4 → x < 2 ^ 32 → rotate_right w32 x (8 * n) ≡ turned x n
+unfolding byte_of word turned
+turned_is x zero lt h =
+    let same : x * 1 % 4294967296 ≡ x = omega arith in
+    let whole : x / 1 ≡ x = omega arith in
+    ap₂ bit_or whole same ∙ or_self x ∙ omega (arith, bytes_word x h)
+turned_is x (suc zero) lt h =
+    let low : x * 16777216 % 4294967296 ≡ x % 256 * 16777216 = omega arith in
+    ap (bit_or (x / 256)) low ∙ in-front (x / 256) (x % 256) 24 (omega arith) ∙ omega (arith, bytes_word x h)
+turned_is x (suc (suc zero)) lt h =
+    let low : x * 65536 % 4294967296 ≡ x % 65536 * 65536 = omega arith in
+    ap (bit_or (x / 65536)) low ∙ in-front (x / 65536) (x % 65536) 16 (omega arith) ∙ omega (arith, bytes_word x h)
+turned_is x (suc (suc (suc zero))) lt h =
+    let low : x * 256 % 4294967296 ≡ x % 16777216 * 256 = omega arith in
+    ap (bit_or (x / 16777216)) low ∙ in-front (x / 16777216) (x % 16777216) 8 (omega arith)
+    ∙ omega (arith, bytes_word x h)
+turned_is x (suc (suc (suc (suc n)))) lt h = absurd (omega arith)
 
 pub word_bytes : (a b c d : ℕ) → a < 256 → b < 256 → c < 256 → d < 256 → Bytes (word a b c d) a b c d
 unfolding byte_of word
@@ -70,13 +84,6 @@ bytes_of e =
       byte2 = ap (λ (x : ℕ). byte_of x 2) e;
       byte3 = ap (λ (x : ℕ). byte_of x 3) e;
     }
-
--- the four bytes of a word, as the code lays them down
-pub four_laid : (l : List ℕ) (k x : ℕ)
-    → four_set l k (x / 16777216 % 256) (x / 65536 % 256) (x / 256 % 256) (x % 256)
-    ≡ four_set l k (byte_of x 0) (byte_of x 1) (byte_of x 2) (byte_of x 3)
-unfolding byte_of
-four_laid l k x i = four_set l k (byte_of x 0) (byte_of x 1) (byte_of x 2) (byte_of-last x i)
 
 -- the sixteen bytes of four words, from the bytes of each
 pub four_bytes : {w a b c d w' a' b' c' d' v e f g h v' e' f' g' h' : ℕ}
@@ -112,3 +119,17 @@ loaded_at l k a b c d e f g h =
       byte3 = e.byte3;
     })
     (word_at_bytes l k 4 b f) (word_at_bytes l k 8 c g) (word_at_bytes l k 12 d h)
+
+-- the columns of a block are its words
+pub loaded : (b : List ℕ) (x : Columns) → x.a < 2 ^ 32 → x.b < 2 ^ 32 → x.c < 2 ^ 32 → x.d < 2 ^ 32
+    → block_of x ≡ state (at b) → Loaded b x
+unfolding key_word
+loaded b x ha hb hc hd e =
+    let byte : (i : ℕ) → at (block_of x) i ≡ at (state (at b)) i = λ i. ap (λ (s : List ℕ). at s i) e in
+    record {
+      block = e;
+      first = word_is x.a _ _ _ _ ha (record { byte0 = byte 0; byte1 = byte 1; byte2 = byte 2; byte3 = byte 3 });
+      second = word_is x.b _ _ _ _ hb (record { byte0 = byte 4; byte1 = byte 5; byte2 = byte 6; byte3 = byte 7 });
+      third = word_is x.c _ _ _ _ hc (record { byte0 = byte 8; byte1 = byte 9; byte2 = byte 10; byte3 = byte 11 });
+      fourth = word_is x.d _ _ _ _ hd (record { byte0 = byte 12; byte1 = byte 13; byte2 = byte 14; byte3 = byte 15 });
+    }

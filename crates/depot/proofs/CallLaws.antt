@@ -1,15 +1,13 @@
 -- Each way out of a call of the depot, as the meaning has it: a refusal by its number, or the work done.
 use mathlib.Core.Path.{◌≡◌, sym, ap, ap₂, ◌∙◌}
-use mathlib.Core.Bool.{Bool, true, false, not}
-use mathlib.Core.List.{List, [], ◌∷◌, ◌++◌, append-nil}
+use mathlib.Core.Bool.{Bool, true, false}
+use mathlib.Core.List.{List, [], ◌++◌, append-nil}
 use Prim.Native.Nat.{ℕ, ◌-◌, ◌%◌}
 use native.Mathlib.Omega.{arith}
-use borrow.Author.Tests.{eq-eqb, ne_eqb}
-use lib.Dec.{eqb}
+use borrow.Author.Tests.{eq-eqb}
 use lib.ListN.{length, take, drop, drop_of_length-le, length-drop}
 use Rattle.lists.specs.Bytes.{same}
 use Rattle.model.specs.Cipher.{Cipher}
-use Rattle.instructions.specs.Rules.{first_of}
 use Rattle.instructions.specs.Refusals.{buffer_flaws}
 use Rattle.instructions.specs.Depot.{depot_flaws, depot_sign, depot_seal, depot_open}
 use Rattle.depot.specs.Answer.{gave}
@@ -25,30 +23,7 @@ mac-copied line mac size =
     (drop_of_length-le (drop 48 line) {i = length line - 48} (omega (arith, length-drop 48 line)))
     ∙ ap (λ (r : List ℕ). take 48 line ++ r) (append-nil mac)
 
--- the first refusal of a line and a MAC, whatever else may be refused
-module _ (a : ℕ) (line mac : List ℕ) (rest : List (Bool × ℕ)) where
-  pub flaw_address : (a % 64 ≡ 0 → ⊥) → first_of (depot_flaws a line mac ++ rest) ≡ 106
-  unfolding depot_flaws
-  flaw_address h = rw (ne_eqb (a % 64) 0 h)
-
-  pub flaw_line : a % 64 ≡ 0 → (length line ≡ 64 → ⊥) → first_of (depot_flaws a line mac ++ rest) ≡ 107
-  unfolding depot_flaws buffer_flaws
-  flaw_line h g = rw (eq-eqb (a % 64) 0 h, ne_eqb (length line) 64 g)
-
-  pub flaw_mac : a % 64 ≡ 0 → length line ≡ 64 → (length mac ≡ 16 → ⊥)
-      → first_of (depot_flaws a line mac ++ rest) ≡ 107
-  unfolding depot_flaws buffer_flaws
-  flaw_mac h g f = rw (eq-eqb (a % 64) 0 h, eq-eqb (length line) 64 g, ne_eqb (length mac) 16 f)
-
 module _ (c : Cipher) (key : List ℕ) (a : ℕ) (line : List ℕ) where
-  pub sign_106 : (a % 64 ≡ 0 → ⊥) → gave 106 line [] ≡ depot_sign c key a line
-  unfolding depot_sign
-  sign_106 h = rw (ne_eqb (a % 64) 0 h)
-
-  pub sign_107 : a % 64 ≡ 0 → (length line ≡ 64 → ⊥) → gave 107 line [] ≡ depot_sign c key a line
-  unfolding depot_sign buffer_flaws
-  sign_107 h g = rw (eq-eqb (a % 64) 0 h, ne_eqb (length line) 64 g)
-
   pub sign_done : (mac line' : List ℕ) → a % 64 ≡ 0 → length line ≡ 64
       → mac ≡ c.code_mac key a (take 48 line)
       → line' ≡ copied_over line mac
@@ -61,11 +36,6 @@ module _ (c : Cipher) (key : List ℕ) (a : ℕ) (line : List ℕ) where
 
   -- the sizes of both buffers, and the address, as the meaning tests them
   module _ (mac : List ℕ) where
-    pub seal_refused : {n : ℕ} → eqb n 0 ≡ false → first_of (depot_flaws a line mac ++ []) ≡ n
-        → gave n line mac ≡ depot_seal c key a line mac
-    unfolding depot_seal depot_flaws buffer_flaws
-    seal_refused some e = rw (e, some)
-
     pub seal_done : (line' made mac' : List ℕ) → a % 64 ≡ 0 → length line ≡ 64 → length mac ≡ 16
         → line' ≡ c.encipher key a line
         → made ≡ c.data_mac key a line' → mac' ≡ made → gave 0 line' mac' ≡ depot_seal c key a line mac
@@ -73,12 +43,6 @@ module _ (c : Cipher) (key : List ℕ) (a : ℕ) (line : List ℕ) where
     seal_done line' made mac' h g f e m copy =
         ap₂ (gave 0) e (copy ∙ m ∙ ap (c.data_mac key a) e)
         ∙ rw (eq-eqb (a % 64) 0 h, eq-eqb (length line) 64 g, eq-eqb (length mac) 16 f)
-
-    pub open_refused : {n : ℕ} → eqb n 0 ≡ false
-        → first_of (depot_flaws a line mac ++ ((not (same (c.data_mac key a line) mac), 109) ∷ [])) ≡ n
-        → gave n line mac ≡ depot_open c key a line mac
-    unfolding depot_open
-    open_refused some e = rw (e, some)
 
     pub open_109 : (made : List ℕ) (r : Bool) → a % 64 ≡ 0 → length line ≡ 64 → length mac ≡ 16
         → made ≡ c.data_mac key a line

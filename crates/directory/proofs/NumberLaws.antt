@@ -66,18 +66,16 @@ pub entry_zero : entry_of 0 ≡ empty
 unfolding entry_of used_of line_of tag_of dirty_of empty
 entry_zero = refl
 
--- the number that the code makes, of a tag's number
-number-made : (n t : ℕ) (b : Bool) → t ≤ 2 → number_of (holding n (tag_named t) b) ≡ packed n t (if b 1 0)
+-- the number that the code makes
+pub number_clean : (n : ℕ) (t : Tag) (b : Bool) → b ≡ false
+    → 1 + 2 * tag_number t + 16 * n ≡ number_of (holding n t b)
 unfolding number_of holding
-number-made n t b h = rw (number-named t h)
+number_clean n t b e = rw e (omega arith)
 
-pub number_clean : (n t : ℕ) (b : Bool) → t ≤ 2 → b ≡ false
-    → 1 + 2 * t + 16 * n ≡ number_of (holding n (tag_named t) b)
-number_clean n t b h e = rw (e, number-made n t false h) (omega arith)
-
-pub number-dirty : (n t : ℕ) (b : Bool) → t ≤ 2 → b ≡ true
-    → 1 + 2 * t + 16 * n + 8 ≡ number_of (holding n (tag_named t) b)
-number-dirty n t b h e = rw (e, number-made n t true h) (omega arith)
+pub number-dirty : (n : ℕ) (t : Tag) (b : Bool) → b ≡ true
+    → 1 + 2 * tag_number t + 16 * n + 8 ≡ number_of (holding n t b)
+unfolding number_of holding
+number-dirty n t b e = rw e (omega arith)
 
 -- a number other than 0 that is right in slot p, bit by bit
 pub record Sits (N C p d : ℕ) : Type 0 where
@@ -165,33 +163,51 @@ module _ (N C p d : ℕ) where
   fine-unused h u =
       by-eq d 0 (λ e. e) (λ z. absurd (false≢true (sym u ∙ eq-eqb (d % 2) 1 (fine-sits h z).odd)))
 
-low_eleven : (d : ℕ) → (d % 2 ≡ 0 → ⊥) → d / 2 % 4 ≡ 1 → d / 8 % 2 ≡ 1 → d % 16 ≡ 11
-low_eleven d u t b =
-    let odd : d % 2 ≡ 1 = odd_is d u in
-    omega arith
+-- the tests of the code: the low four bits of a right number are not those of a dirty line under tag 1
+pub fine_tests : (N C p d : ℕ) → N ≤ 1024
+    → fine N C p d ≡ (eqb d 0 || (ltb (d / 16) N && (eqb (d / 16 % C) p && (eqb (d % 2) 1
+    && (not (eqb (d / 2 % 4) 3) && not (eqb (d % 16) 11))))))
+fine_tests N C p d hN = by-eq d 0 (λ e. rw (eq-eqb d 0 e) (zero_fine N C p d e)) (λ z. rw (ne_eqb d 0 z) (line z))
   where
-    odd_is : (d : ℕ) → (d % 2 ≡ 0 → ⊥) → d % 2 ≡ 1
-    odd_is d u = omega arith
+    unfit : (d ≡ 0 → ⊥) → (Sits N C p d → ⊥) → fine N C p d ≡ false
+    unfit = unfit_fine N C p d
 
--- the last test of the code: the low four bits are not those of a dirty line under tag 1
-pub fine-last : (N C p d : ℕ) → N ≤ 1024 → (d ≡ 0 → ⊥) → d / 16 < N → d / 16 % C ≡ p
-    → (d % 2 ≡ 0 → ⊥)
-    → (d / 2 % 4 ≡ 3 → ⊥) → not (eqb (d % 16) 11) ≡ fine N C p d
-fine-last N C p d hN z hn e used tag =
-    by-eq (d % 16) 11
-    (λ q. rw (eq-eqb (d % 16) 11 q) (sym (unfit_fine N C p d z (λ s. s.tame (omega (arith, q)) (omega (arith, q))))))
-    (λ q. rw (ne_eqb (d % 16) 11 q) (sym (sits-fine N C p d (sits q))))
-  where
-    sits : (d % 16 ≡ 11 → ⊥) → Sits N C p d
-    sits q =
+    sits : d / 16 < N → d / 16 % C ≡ p → d % 2 ≡ 1 → (d / 2 % 4 ≡ 3 → ⊥) → (d % 16 ≡ 11 → ⊥) → Sits N C p d
+    sits line slot odd tag q =
         record {
-          odd = omega arith;
+          odd = odd;
           tag = omega arith;
           small = omega arith;
-          slot = e;
-          line = hn;
-          tame = λ t b. q (low_eleven d used t b);
+          slot = slot;
+          line = line;
+          tame = λ t b. q (omega (arith, odd, t, b));
         }
+
+    low : (d ≡ 0 → ⊥) → d / 16 < N → d / 16 % C ≡ p → d % 2 ≡ 1 → fine N C p d
+        ≡ (not (eqb (d / 2 % 4) 3) && not (eqb (d % 16) 11))
+    low z l s odd =
+        by-eq (d / 2 % 4) 3 (λ q. rw (eq-eqb (d / 2 % 4) 3 q) (unfit z (λ s. omega (arith, s.tag))))
+        (λ tag.
+        rw (ne_eqb (d / 2 % 4) 3 tag)
+        (by-eq (d % 16) 11
+        (λ q. rw (eq-eqb (d % 16) 11 q) (unfit z (λ s. s.tame (omega (arith, q)) (omega (arith, q)))))
+        (λ q. rw (ne_eqb (d % 16) 11 q) (sits-fine N C p d (sits l s odd tag q)))))
+
+    slot : (d ≡ 0 → ⊥) → d / 16 < N → fine N C p d ≡ (eqb (d / 16 % C) p && (eqb (d % 2) 1
+        && (not (eqb (d / 2 % 4) 3) && not (eqb (d % 16) 11))))
+    slot z l =
+        by-eq (d / 16 % C) p
+        (λ s.
+        rw (eq-eqb (d / 16 % C) p s)
+        (by-eq (d % 2) 1 (λ odd. rw (eq-eqb (d % 2) 1 odd) (low z l s odd))
+        (λ even. rw (ne_eqb (d % 2) 1 even) (unfit z (λ s. even s.odd)))))
+        (λ other. rw (ne_eqb (d / 16 % C) p other) (unfit z (λ s. other s.slot)))
+
+    line : (d ≡ 0 → ⊥) → fine N C p d ≡ (ltb (d / 16) N && (eqb (d / 16 % C) p && (eqb (d % 2) 1
+        && (not (eqb (d / 2 % 4) 3) && not (eqb (d % 16) 11)))))
+    line z =
+        by_test (ltb (d / 16) N) (λ a. rw a (slot z (ltb-true (d / 16) N a)))
+        (λ b. rw b (unfit z (λ s. false≢true (sym b ∙ lt-ltb (d / 16) N s.line))))
 
 -- a used number that is right in its slot
 pub record Right (N C p d : ℕ) : Type 0 where
@@ -277,29 +293,28 @@ module _ (d n : ℕ) where
   holds-used h = rw h
 
   -- what it says of serving an access under the tag: the used bit and the tag at once, and then the line
-  serves-empty : (t : ℕ) → d % 2 ≡ 0 → false ≡ serves (entry_of d) (tag_named t) n
+  serves-empty : (t : Tag) → d % 2 ≡ 0 → false ≡ serves (entry_of d) t n
   unfolding serves entry_of used_of
   serves-empty t h =
       let e : d % 2 ≡ 1 → ⊥ = λ k. omega arith in
       rw (ne_eqb (d % 2) 1 e)
 
-  serves-tag : (t : ℕ) → t ≤ 2 → d / 2 % 4 ≤ 2 → (d / 2 % 4 ≡ t → ⊥)
-      → false ≡ serves (entry_of d) (tag_named t) n
+  serves-tag : (t : Tag) → d / 2 % 4 ≤ 2 → (d / 2 % 4 ≡ tag_number t → ⊥) → false ≡ serves (entry_of d) t n
   unfolding serves entry_of tag_of tag_named
-  serves-tag t ht hd h =
-      rw (same_tag_false (d / 2 % 4) t hd ht h, and_false (eqb (line_of d) n)) (sym (and_false (used_of d)))
+  serves-tag t hd h =
+      rw (same_tag_false (tag_of d) t (λ e. h (sym (number-named (d / 2 % 4) hd) ∙ e)), and_false (eqb (line_of d) n))
+      (sym (and_false (used_of d)))
 
-  pub serves_other : (t : ℕ) → is_number d ≡ true → t ≤ 2 → (d % 8 ≡ 1 + 2 * t → ⊥)
-      → false ≡ serves (entry_of d) (tag_named t) n
-  serves_other t number ht h =
+  pub serves_other : (t : Tag) → is_number d ≡ true → (d % 8 ≡ 1 + 2 * tag_number t → ⊥)
+      → false ≡ serves (entry_of d) t n
+  serves_other t number h =
       by-eq (d % 2) 0 (serves-empty t)
       (λ (used : d % 2 ≡ 0 → ⊥).
-      serves-tag t ht (number-tag d number) (λ (e : d / 2 % 4 ≡ t). h (omega (arith, used, e))))
+      serves-tag t (number-tag d number) (λ (e : d / 2 % 4 ≡ tag_number t). h (omega (arith, used, e))))
 
-  pub serves-same : (t : ℕ) → d % 8 ≡ 1 + 2 * t → t ≤ 2 → eqb (entry_of d).line n ≡ serves (entry_of d)
-      (tag_named t) n
+  pub serves-same : (t : Tag) → d % 8 ≡ 1 + 2 * tag_number t → eqb (entry_of d).line n ≡ serves (entry_of d) t n
   unfolding serves entry_of used_of tag_of tag_named
-  serves-same t e ht =
-      let u : d % 2 ≡ 1 = low-used d t e in
-      let f : d / 2 % 4 ≡ t = low-tag d t e ht in
-      rw (← f, eq-eqb (d % 2) 1 u, same_tag_refl (tag_named (d / 2 % 4))) (sym (and_true (eqb (line_of d) n)))
+  serves-same t e =
+      let u : d % 2 ≡ 1 = low-used d (tag_number t) e in
+      let f : d / 2 % 4 ≡ tag_number t = low-tag d (tag_number t) e (number-le t) in
+      rw (f, eq-eqb (d % 2) 1 u, named-number t, same_tag_refl t) (sym (and_true (eqb (line_of d) n)))

@@ -2,7 +2,9 @@
 use Prim.Native.Nat.{ℕ, zero, suc, ◌+◌, ◌<◌, ◌≤◌}
 use native.Mathlib.Omega.{arith}
 use mathlib.Core.Path.{◌≡◌, refl}
-use mathlib.Core.Bool.{true}
+use mathlib.Core.Bool.{Bool, true}
+use Rattle.std.proofs.lemmas.Bool.Decides.{same_from_decides}
+use Rattle.std.proofs.Common.{◌↔◌, IsTrue, EachIndex, slice_index}
 use mathlib.Core.List.{List, [], ◌∷◌}
 use lib.ListN.{length, get_or}
 use Rattle.lists.specs.Bytes.{zeros}
@@ -55,6 +57,21 @@ orderly_scan N dir o =
     (λ i l.
     let e : 0 + i ≡ i = omega arith in
     rw e (o.numbers i l))
+
+-- the scan passes exactly where each number is right in its slot
+pub scan_decides : (N C : ℕ) (dir : List ℕ) (r : Bool)
+    → (IsTrue r ↔ EachIndex dir (λ k. fine N C k (slice_index dir k) ≡ true)) → r ≡ all_fine N C 0 dir
+scan_decides N C dir r h =
+    same_from_decides r (all_fine N C 0 dir) h (
+      (λ e i l.
+          let z : 0 + i ≡ i = omega arith in
+          rw z at (scan_each N C 0 dir e i l)),
+      (λ f.
+          each_scan N C 0 dir
+          (λ i l.
+          let z : 0 + i ≡ i = omega arith in
+          rw z (f i l))),
+    )
 
 -- a directory of zeros is orderly
 pub zeros-orderly : (N C : ℕ) → 0 < C → N ≤ 1024 → OrderlyDirect N (zeros C)

@@ -1,29 +1,24 @@
 -- The tag of a number, and the number of a tag.
 use Prim.Native.Nat.{ℕ, ◌≤◌}
 use native.Mathlib.Omega.{arith}
-use mathlib.Core.Path.{◌≡◌, refl, sym, ap, ◌∙◌}
+use mathlib.Core.Path.{◌≡◌, refl, sym, ap}
 use mathlib.Core.Bool.{false}
 use borrow.Author.Tests.{eq-eqb, ne_eqb}
 use Rattle.lists.proofs.Cases.{by-eq, by_test}
 use Rattle.model.specs.Tags.{Tag, no_tag, secure_instruction, secure_data, tag_number, tag_named, same_tag}
 use Rattle.model.proofs.LineLaws.{same_tag_true}
 
-pub named_code : (t : ℕ) → t ≡ 1 → tag_named t ≡ secure_instruction
+named_code : (t : ℕ) → t ≡ 1 → tag_named t ≡ secure_instruction
 unfolding tag_named
 named_code t e = rw (eq-eqb t 1 e)
 
-pub named_data : (t : ℕ) → t ≡ 2 → tag_named t ≡ secure_data
+named_data : (t : ℕ) → t ≡ 2 → tag_named t ≡ secure_data
 unfolding tag_named
 named_data t e = rw e
 
-pub named_none : (t : ℕ) → (t ≡ 1 → ⊥) → (t ≡ 2 → ⊥) → tag_named t ≡ no_tag
+named_none : (t : ℕ) → (t ≡ 1 → ⊥) → (t ≡ 2 → ⊥) → tag_named t ≡ no_tag
 unfolding tag_named
 named_none t a b = rw (ne_eqb t 1 a, ne_eqb t 2 b)
-
--- under any tag but Secure Data a fact may be shown for the two others
-pub but_data : (P : Tag → Type 0) (t : ℕ) → (t ≡ 2 → ⊥) → P no_tag → P secure_instruction
-    → P (tag_named t)
-but_data P t b x y = by-eq t 1 (λ e. rw (named_code t e) y) (λ a. rw (named_none t a b) x)
 
 -- a tag's number is its number, and a number's tag its tag
 pub number-named : (t : ℕ) → t ≤ 2 → tag_number (tag_named t) ≡ t
@@ -45,16 +40,6 @@ number-le no_tag = omega arith
 number-le secure_instruction = omega arith
 number-le secure_data = omega arith
 
--- the number 3 names no tag
-pub number_three : (t : ℕ) → t ≡ 3 → ◌≡◌ {A = ℕ} 0 (tag_number (tag_named t))
-unfolding tag_number tag_named
-number_three t e = rw e
-
-pub same_tag_false : (a b : ℕ) → a ≤ 2 → b ≤ 2 → (a ≡ b → ⊥)
-    → same_tag (tag_named a) (tag_named b) ≡ false
-same_tag_false a b ha hb h =
-    by_test (same_tag (tag_named a) (tag_named b))
-    (λ e.
-    absurd (h (sym (number-named a ha) ∙ ap tag_number (same_tag_true (tag_named a) (tag_named b) e)
-    ∙ number-named b hb)))
-    (λ e. e)
+-- tags with two numbers are two
+pub same_tag_false : (a b : Tag) → (tag_number a ≡ tag_number b → ⊥) → same_tag a b ≡ false
+same_tag_false a b h = by_test (same_tag a b) (λ e. absurd (h (ap tag_number (same_tag_true a b e)))) (λ e. e)

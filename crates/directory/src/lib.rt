@@ -3,3 +3,4 @@
 
 pub mod number;
 pub mod place;
+pub mod tag;

@@ -9,14 +9,6 @@ pub(crate) fn all_fine(dir: &[u32], lines: u32) -> bool
     requires { (length dir.now ≤ 64) × (lines ≤ 1024) }
     ensures { result ≡ all_fine lines (length dir.now) 0 dir.now }
 {
-    let n = dir.len();
-    let slots = n as u32;
-    let mut i: u32 = 0;
-    while i < slots {
-        if !number::fine(dir[i as usize], lines, slots, i) {
-            return false;
-        }
-        i += 1;
-    }
-    true
+    let slots = dir.len() as u32;
+    dir.iter().enumerate().all(|(place, number)| number::fine(*number, lines, slots, place as u32))
 }

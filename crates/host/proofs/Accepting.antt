@@ -32,16 +32,16 @@ use Rattle.registers.specs.Map.{processor_of, key_of}
 use Rattle.registers.specs.Effects.{Holds}
 use Rattle.registers.specs.declared.record.Processor as code
 use Rattle.host.specs.Outcome.{result_of, Gives, Leaves, Answers}
-use Rattle.host.proofs.Refusing.{Judged, accepted-is, own-none, in_order}
+use Rattle.host.proofs.Refusing.{Accepted, accepted-is, own-none, in_order}
 
 -- ---- what the core asks for, once a call is not refused
-module _ {call : Call} {l : Lent} {no : ℕ} (j : Judged call l no) (right : no ≡ 0) where
+module _ {call : Call} {l : Lent} (j : Accepted call l) where
   own : first_of (call_flaws (length l.mem) call) ≡ 0
-  own = own-none document_board aes_cipher call (machine_in l) j.number right
+  own = own-none document_board aes_cipher call (machine_in l) j.none.number refl
 
   pub fit : Fit (machine_in l).memory
   unfolding document_board document_laws
-  fit = (in_order j right).good
+  fit = (in_order j).good
 
   -- of a call with a line, and perhaps a buffer
   pub line-asks : (n : ℕ) (rest : List (Bool × ℕ)) → call_flaws (length l.mem) call
@@ -60,8 +60,8 @@ module _ {call : Call} {l : Lent} {no : ℕ} (j : Judged call l no) (right : no 
   unfolding size_fine document_board
   run-asks n e =
       let M = length l.mem in
-      let size = both_hold (leb 128 M) (leb M 65536) (both_hold (eqb (M % 64) 0) _ (in_order j right).sized).1 in
-      let slots = both_hold (leb 1 (length l.dir)) (leb (length l.dir) 64) (in_order j right).slots in
+      let size = both_hold (leb 128 M) (leb M 65536) (both_hold (eqb (M % 64) 0) _ (in_order j).sized).1 in
+      let slots = both_hold (leb 1 (length l.dir)) (leb (length l.dir) 64) (in_order j).slots in
       ((leb-true 128 M size.0, leb-true (length l.dir) 64 slots.1, run_is n (sym (ap first_of e) ∙ own)), fit)
 
 -- ---- what is left behind it a record holds what it is read as
@@ -83,12 +83,12 @@ memory_with key mem macs cache dir = record { key = key; mem = mem; macs = macs;
 abbrev lent_with : code.Processor → List ℕ → List ℕ → List ℕ → List ℕ → Lent
 lent_with p mem macs cache dir = record { processor = p; mem = mem; macs = macs; cache = cache; dir = dir }
 
-module _ {call : Call} {l : Lent} {no : ℕ} (j : Judged call l no) (right : no ≡ 0) where
+module _ {call : Call} {l : Lent} (j : Accepted call l) where
   accepted_leaves : (l' : Lent) {x : Report} {buffer : List ℕ} → Gives (on_accepted call l) x buffer
       (machine_in l')
       → Leaves call l x buffer l'
   unfolding Leaves result_of
-  accepted_leaves l' g = rw (accepted-is document_board aes_cipher call (machine_in l) j.number right) g
+  accepted_leaves l' g = rw (accepted-is document_board aes_cipher call (machine_in l) j.none.number refl) g
 
   pub run_leaves : (n : ℕ) (l' : Lent) {x : Report} → on_accepted call l ≡ running n 0 (machine_in l)
       → RunGives n l x l' → Leaves call l x [] l'

@@ -1,9 +1,12 @@
 // The head of every call, which is its refusal, and what a call gives that is refused or done.
-ghost use Rattle.std.specs.Prelude.{◌≡◌, get_or};
+ghost use Rattle.std.specs.Prelude.{◌≡◌, length};
+ghost use Rattle.answers.specs.Numbers.{refusal_number, refusal_in};
 ghost use Rattle.model.specs.Log.{no_counts};
 ghost use Rattle.cache.specs.Lent.{counts_in};
 ghost use Rattle.host.specs.Outcome.{Reports, Answers, lowest};
 
+use answers::refusals::Refusal;
+use cache::buffers::Buffers;
 use cache::slots;
 use cache::slots::Counts;
 pub use machine::answer::{Answer, Report};
@@ -28,12 +31,12 @@ pub fn uncounted(n: u32) -> Report
 }
 
 // A refusal: nothing done, nothing counted.
-pub(crate) fn refused(p: Processor, n: u32) -> Answer
-    ensures { Answers p n no_counts result }
+pub(crate) fn refused(p: Processor, refusal: Refusal) -> Answer
+    ensures { Answers p (refusal_number refusal) no_counts result }
 {
     Answer {
         processor: p,
-        report: uncounted(n),
+        report: uncounted(refusal.number()),
     }
 }
 
@@ -47,27 +50,39 @@ pub(crate) fn done(p: Processor, k: Counts) -> Answer
     }
 }
 
-// R0 of a record.
-fn zeroth(p: Processor) -> u64
-    ensures { result ≡ get_or p.r 0 0 }
-{
-    let r = p.r;
-    r[0]
-}
-
 // The lowest refusal: 101 to 104 of what is lent, 105 of the record, or the call's own.
+//
+// Kept: the buffers' lengths apart, since C lends a listing shared slices (hq_list_slots), and Buffers holds `&mut`.
 pub(crate) fn refusal(
     p: Processor,
     mem: usize,
     macs: usize,
     cache: usize,
     dir: &[u32],
-    own: u32,
-) -> u32
-    ensures { result ≡ lowest p mem macs cache dir.now own }
+    own: Result<(), Refusal>,
+) -> Result<(), Refusal>
+    ensures { refusal_in result ≡ lowest p mem macs cache dir.now (refusal_in own) }
 {
-    let q = p.special;
-    let a = entry::lent(mem, macs, cache, dir);
-    let b = entry::call::record(zeroth(p), q.mode);
-    entry::call::or_else(a, entry::call::or_else(b, own))
+    entry::lent(mem, macs, cache, dir)?;
+    entry::call::record(p.r[0], p.special.mode)?;
+    own
+}
+
+// The same of buffers that are lent as one.
+pub(crate) fn refusal_on(
+    p: Processor,
+    buffers: &Buffers,
+    own: Result<(), Refusal>,
+) -> Result<(), Refusal>
+    ensures { refusal_in result ≡ lowest p (length buffers.now.mem.now) (length buffers.now.macs.now)
+        (length buffers.now.cache.now) buffers.now.dir.now (refusal_in own) }
+{
+    refusal(
+        p,
+        buffers.mem.len(),
+        buffers.macs.len(),
+        buffers.cache.len(),
+        buffers.dir,
+        own,
+    )
 }

@@ -1,6 +1,6 @@
 // The listing, by value: its refusal, and the record of each slot.
 ghost use Rattle.std.specs.Prelude.{◌≡◌};
-ghost use Rattle.lists.specs.If.{if};
+ghost use Rattle.answers.specs.Numbers.{refusal_in};
 ghost use Rattle.directory.specs.Numbers.{entry_of};
 ghost use Rattle.directory.specs.Direct.{direct};
 ghost use Rattle.instructions.specs.Board.{document_board};
@@ -9,12 +9,13 @@ ghost use Rattle.machine.specs.Lent.{machine_in, handed};
 ghost use Rattle.host.specs.Row.{row_of};
 
 use crate::answer;
+use answers::refusals::Refusal;
 use directory::number;
 use registers::record::Processor;
 
 // A record of the row: used (1) or empty (0), line, tag, dirty (1) or clean (0).
 #[repr(C)]
-#[derive(Clone, Copy)]
+#[derive(Clone, Copy, Debug, PartialEq, Eq)]
 pub struct LineRecord {
     pub used: u32,
     pub line: u32,
@@ -22,22 +23,19 @@ pub struct LineRecord {
     pub dirty: u32,
 }
 
-// The refusal of a listing into a row of so many records, and 0 where there is none.
-pub fn refusal(p: Processor, mem: &[u8], macs: &[u8], cache: &[u8], dir: &[u32], rows: usize) -> u32
-    ensures { result ≡ listing_refusal document_board (machine_in (handed p mem.now macs.now cache.now dir.now)) rows }
+// The refusal of a listing into a row of so many records, where there is one.
+pub fn refusal(
+    p: Processor,
+    mem: &[u8],
+    macs: &[u8],
+    cache: &[u8],
+    dir: &[u32],
+    rows: usize,
+) -> Result<(), Refusal>
+    ensures { refusal_in result ≡ listing_refusal document_board (machine_in (handed p mem.now macs.now cache.now dir.now)) rows }
 {
     let own = entry::call::row(rows, dir.len());
     answer::refusal(p, mem.len(), macs.len(), cache.len(), dir, own)
-}
-
-// 1 where the test holds, 0 where it does not.
-fn bit(test: bool) -> u32
-    ensures { result ≡ if test 1 0 }
-{
-    if test {
-        return 1;
-    }
-    0
 }
 
 // What a directory number says.
@@ -45,10 +43,10 @@ fn row_of(d: u32) -> LineRecord
     ensures { result ≡ row_of (entry_of d) }
 {
     LineRecord {
-        used: bit(number::used(d)),
+        used: number::used(d) as u32,
         line: number::line(d),
-        tag: number::tag(d),
-        dirty: bit(number::dirty(d)),
+        tag: number::tag(d).number(),
+        dirty: number::dirty(d) as u32,
     }
 }
 
@@ -56,8 +54,5 @@ fn row_of(d: u32) -> LineRecord
 pub fn row_at(dir: &[u32], i: usize) -> LineRecord
     ensures { result ≡ row_of (direct.look dir.now i) }
 {
-    if i < dir.len() {
-        return row_of(dir[i]);
-    }
-    row_of(0)
+    row_of(dir.get(i).copied().unwrap_or(0))
 }

@@ -1,60 +1,51 @@
 // Run and interrupt.
 ghost use Rattle.std.specs.Prelude.{[]};
 ghost use Rattle.instructions.specs.Calls.{run, interrupt};
-ghost use Rattle.machine.specs.Lent.{before, after};
+ghost use Rattle.cache.specs.Held.{SameBuffers};
+ghost use Rattle.machine.specs.Lent.{given};
 ghost use Rattle.host.specs.Outcome.{Leaves};
 
 use crate::answer;
 use crate::answer::{Answer, Report};
+use answers::faults;
+use cache::buffers::Buffers;
 use cache::slots;
 use registers::record::Processor;
 use registers::suspend;
 
 // At most n instructions, up to the first that faults.
-pub fn run(
-    p: Processor,
-    mem: &mut [u8],
-    macs: &mut [u8],
-    cache: &mut [u8],
-    dir: &mut [u32],
-    n: u64,
-) -> Answer
-    ensures { Leaves (run n) (before p mem macs cache dir) result.report []
-        (after result.processor mem macs cache dir) }
+pub fn run(p: Processor, buffers: &mut Buffers, n: u64) -> Answer
+    ensures same { SameBuffers buffers.old buffers.new }
+    ensures leaves { Leaves (run n) (given p buffers.old) result.report []
+        (given result.processor buffers.new) }
 {
     let q = p.special;
     let mut r = p.r;
     let own = entry::call::steps(n);
-    let no = answer::refusal(p, mem.len(), macs.len(), cache.len(), dir, own);
-    if no != 0 {
+    if let Err(no) = answer::refusal_on(p, buffers, own) {
         return answer::refused(Processor { r, special: q }, no);
     }
-    let x = machine::run::run(&mut r, q, mem, macs, cache, dir, n);
-    let s = x.special;
-    let k = x.counts;
+    let x = machine::run::run(&mut r, q, buffers, n);
     Answer {
-        processor: Processor { r, special: s },
+        processor: Processor {
+            r,
+            special: x.special,
+        },
         report: Report {
-            answer: x.answer,
+            answer: faults::number_of(x.fault),
             steps: x.steps,
-            counts: k,
+            counts: x.counts,
         },
     }
 }
 
 // An interrupt: an active thread is suspended, and the machine goes on at its handler.
-pub fn interrupt(
-    p: Processor,
-    mem: &mut [u8],
-    macs: &mut [u8],
-    cache: &mut [u8],
-    dir: &mut [u32],
-) -> Answer
-    ensures { Leaves interrupt (before p mem macs cache dir) result.report []
-        (after result.processor mem macs cache dir) }
+pub fn interrupt(p: Processor, buffers: &mut Buffers) -> Answer
+    ensures same { SameBuffers buffers.old buffers.new }
+    ensures leaves { Leaves interrupt (given p buffers.old) result.report []
+        (given result.processor buffers.new) }
 {
-    let no = answer::refusal(p, mem.len(), macs.len(), cache.len(), dir, 0);
-    if no != 0 {
+    if let Err(no) = answer::refusal_on(p, buffers, Ok(())) {
         return answer::refused(p, no);
     }
     let q = p.special;

@@ -1,281 +1,182 @@
 // The lines of a board file laid into memory, and those for protected use signed or sealed at the depot.
-ghost use Rattle.std.specs.Prelude.{◌≡◌, ◌≤◌, length};
+ghost use Rattle.std.specs.Prelude.{◌≡◌, ◌≤◌, length, IfErr};
 
-use board_numbers::errors;
+use board_numbers::errors::{FileError, Misread};
+use board_numbers::number::Number;
+use board_text::names::{Kind, Use};
 use board_text::statement::Statement;
-use board_text::{names, statement};
+use board_text::{lines, statement};
+use opcodes::opcode::Opcode;
+use sealing::Drk;
 
-// Where the next word goes: up to `end`, so many bytes at a time (0: no line is open); an error or 0.
+// The room that is left of the line opened last: where the next word goes, up to `end`, so many bytes at a time.
 #[derive(Clone, Copy)]
-struct Place {
+struct Room {
     at: usize,
     end: usize,
     size: usize,
-    error: u32,
+    ghost near: { end ≤ 65536 },
+    ghost small: { size ≤ 8 },
 }
 
-// What a laying came to: 0, or a number of `errors` with the line where it was met.
-#[derive(Clone, Copy)]
-pub struct Laid {
-    pub error: u32,
-    pub line: u64,
-}
-
-// No line open.
-fn nowhere() -> Place {
-    Place {
-        at: 0,
-        end: 0,
-        size: 0,
-        error: 0,
-    }
-}
-
-// A place with an error.
-fn refused(p: Place, error: u32) -> Place {
-    let mut q = p;
-    q.error = error;
-    q
-}
-
-// Puts a number's low bytes, so many of them, at a place of memory where they fit, the lowest first.
-fn put(mem: &mut [u8], at: usize, size: usize, value: u64)
-    ensures { length mem.new ≡ length mem.old }
-{
-    if mem.len() < size {
-        return;
-    }
-    if mem.len() - size < at {
-        return;
-    }
-    let mut rest = value;
-    let mut i: usize = 0;
-    while i < size {
-        mem[at + i] = (rest % 256) as u8;
-        rest /= 256;
-        i += 1;
-    }
-}
-
-// The place behind one word more.
-fn one(p: Place, value: u64, mem: &mut [u8]) -> Place
-    ensures { length mem.new ≡ length mem.old }
-{
-    if p.size == 0 {
-        return refused(p, errors::NO_LINE_OPEN);
-    }
-    if p.at == p.end {
-        return refused(p, errors::LINE_FULL);
-    }
-    put(mem, p.at, p.size, value);
-    let mut q = p;
-    q.at = std::num::wrapping_add_usize(p.at, p.size);
-    q
-}
-
-// The place behind the words of a statement from number `from` on.
-fn words(p: Place, s: Statement, from: usize, mem: &mut [u8]) -> Place
-    ensures { length mem.new ≡ length mem.old }
-{
-    let numbers = s.numbers;
-    let count = s.count;
-    let mut q = p;
-    let mut i = from;
-    while i < 17 {
-        if count <= i {
-            return q;
+impl Room {
+    // The room of a line from its first byte on, by its use.
+    fn new(used: Use, at: usize) -> Room
+        requires { at ≤ 65472 }
+    {
+        let size = if used == Use::Data { 8 } else { 4 };
+        let bytes = if used == Use::Code { 48 } else { 64 };
+        Room {
+            at,
+            end: at + bytes,
+            size,
         }
-        let next = one(q, numbers[i], mem);
-        q = next;
-        if q.error != 0 {
-            return q;
+    }
+
+    // Puts a word's low bytes into memory, the lowest first.
+    fn put(&mut self, value: u64, mem: &mut [u8]) -> Result<(), FileError>
+        ensures { length mem.new ≡ length mem.old }
+    {
+        if self.end <= self.at {
+            return Err(FileError::LineFull);
         }
-        i += 1;
+        let bytes = value.to_le_bytes();
+        for (place, byte) in mem.iter_mut().skip(self.at).zip(&bytes).take(self.size) {
+            *place = *byte;
+        }
+        self.at += self.size;
+        Ok(())
     }
-    q
-}
 
-// How a line is used, by the statement that opens it: 1 as it stands, 2 signed, 3 sealed.
-fn use_of(kind: usize) -> u8 {
-    match kind {
-        names::CODE => 2,
-        names::DATA => 3,
-        _ => 1,
-    }
-}
-
-// The room of a line from its first byte on, by the statement that opens it.
-fn room(kind: usize, at: usize) -> Place {
-    let size = if kind == names::DATA { 8 } else { 4 };
-    let bytes = if kind == names::CODE { 48 } else { 64 };
-    Place {
-        at,
-        end: std::num::wrapping_add_usize(at, bytes),
-        size,
-        error: 0,
+    // Puts words into memory, one behind the other.
+    fn put_all(&mut self, numbers: &[Number], mem: &mut [u8]) -> Result<(), FileError>
+        ensures { length mem.new ≡ length mem.old }
+    {
+        for n in numbers {
+            self.put(n.value(), mem)?;
+        }
+        Ok(())
     }
 }
 
-// The start of the line that a statement opens, in a memory of so many bytes.
-fn opened(s: Statement, memory: usize, uses: &mut [u8]) -> Place
-    ensures { length uses.new ≡ length uses.old }
-{
-    let numbers = s.numbers;
-    let line = numbers[0];
-    if 1023 < line {
-        return refused(nowhere(), errors::NOT_IN_MEMORY);
+// The word of an instruction.
+fn instruction(opcode: Opcode, s: &Statement) -> Result<u64, FileError> {
+    coding::encode(opcode as usize, s.value(0), s.value(1), s.value(2))
+}
+
+// Opens a line: notes its use, and answers its room.
+fn opened(
+    used: Use,
+    line: u64,
+    memory: usize,
+    uses: &mut [Option<Use>; 1024],
+) -> Result<Room, FileError> {
+    if uses.len().min(memory / 64) as u64 <= line {
+        return Err(FileError::NotInMemory);
     }
     let i = line as usize;
-    if memory / 64 <= i {
-        return refused(nowhere(), errors::NOT_IN_MEMORY);
+    if uses[i].is_some() {
+        return Err(FileError::LineTwice);
     }
-    if uses.len() <= i {
-        return refused(nowhere(), errors::NOT_IN_MEMORY);
-    }
-    if uses[i] != 0 {
-        return refused(nowhere(), errors::LINE_TWICE);
-    }
-    uses[i] = use_of(s.kind);
-    room(s.kind, i * 64)
+    uses[i] = Some(used);
+    Ok(Room::new(used, i * 64))
 }
 
-// The place behind an instruction.
-fn instruction(p: Place, s: Statement, mem: &mut [u8]) -> Place
+// Lays what a statement says; the room is that of the line opened last.
+fn lay_statement(
+    s: &Statement,
+    room: &mut Option<Room>,
+    mem: &mut [u8],
+    uses: &mut [Option<Use>; 1024],
+) -> Result<(), FileError>
     ensures { length mem.new ≡ length mem.old }
 {
-    let n = s.numbers;
-    let x = coding::encode(s.kind % 64, n[0], n[1], n[2]);
-    if x.error != 0 {
-        return refused(p, x.error);
+    match s.kind {
+        Kind::Line(used) => {
+            let mut opened = opened(used, s.value(0), mem.len(), uses)?;
+            opened.put_all(s.numbers.get(1..).unwrap_or_default(), mem)?;
+            *room = Some(opened);
+        }
+        Kind::Word => room
+            .as_mut()
+            .ok_or(FileError::NoLineOpen)?
+            .put_all(&s.numbers, mem)?,
+        Kind::Instruction(opcode) => {
+            let word = instruction(opcode, s)?;
+            room.as_mut().ok_or(FileError::NoLineOpen)?.put(word, mem)?;
+        }
+        Kind::Setting(_) | Kind::Operation(_) => {}
     }
-    one(p, x.word, mem)
-}
-
-// The place behind a statement.
-fn behind(p: Place, s: Statement, mem: &mut [u8], uses: &mut [u8]) -> Place
-    ensures { (length mem.new ≡ length mem.old)
-        × (length uses.new ≡ length uses.old) }
-{
-    let kind = s.kind;
-    if kind == names::WORD {
-        return words(p, s, 0, mem);
-    }
-    if names::INSTRUCTION <= kind {
-        return instruction(p, s, mem);
-    }
-    if names::WORD < kind {
-        return p;
-    }
-    if kind < names::PLAIN {
-        return p;
-    }
-    let q = opened(s, mem.len(), uses);
-    if q.error != 0 {
-        return q;
-    }
-    words(q, s, 1, mem)
+    Ok(())
 }
 
 // Lays every line of a text into memory, and notes each line's use.
-fn lay(text: &[u8], mem: &mut [u8], uses: &mut [u8]) -> Laid
-    ensures { (result.line ≤ length text.now)
-        × (length mem.new ≡ length mem.old)
-        × (length uses.new ≡ length uses.old) }
+fn lay(text: &[u8], mem: &mut [u8], uses: &mut [Option<Use>; 1024]) -> Result<(), Misread>
+    ensures line { IfErr result (λ m. m.line ≤ length text.now) }
+    ensures length { length mem.new ≡ length mem.old }
 {
-    let mut p = nowhere();
-    let mut line: u64 = 0;
-    let mut at: usize = 0;
-    while at < text.len() {
-        let s = statement::read(text, at);
-        line += 1;
-        let next = behind(p, s, mem, uses);
-        p = next;
-        if p.error != 0 {
-            return Laid {
-                error: p.error,
-                line,
-            };
+    let mut room = None;
+    for line in lines::of(text) {
+        let misread = |error| Misread {
+            line: line.number,
+            error,
+        };
+        if let Some(s) = statement::read(line.text).map_err(misread)? {
+            lay_statement(&s, &mut room, mem, uses).map_err(misread)?;
         }
-        at = s.next;
     }
-    Laid { error: 0, line }
+    Ok(())
 }
 
-// Signs the code line at a place of memory.
-fn sign(high: u64, low: u64, mem: &mut [u8], i: usize)
+// Signs the code line i of memory.
+fn sign(drk: Drk, mem: &mut [u8], i: usize)
     ensures { length mem.new ≡ length mem.old }
 {
-    if mem.len() / 64 <= i {
-        return;
-    }
-    let from = i * 64;
-    let to = from + 64;
-    depot::sign(high, low, from as u64, &mut mem[from..to]);
-}
-
-// Seals the data line at a place of memory, and lays its MAC into the MAC area.
-fn seal(high: u64, low: u64, mem: &mut [u8], macs: &mut [u8], i: usize)
-    ensures { (length mem.new ≡ length mem.old)
-        × (length macs.new ≡ length macs.old) }
-{
-    if mem.len() / 64 <= i {
-        return;
-    }
-    if macs.len() / 16 <= i {
-        return;
-    }
-    let from = i * 64;
-    let to = from + 64;
-    let begin = i * 16;
-    let end = begin + 16;
-    depot::seal(
-        high,
-        low,
-        from as u64,
-        &mut mem[from..to],
-        &mut macs[begin..end],
-    );
-}
-
-// Signs or seals line i, as its use asks.
-fn protect_line(x: u8, high: u64, low: u64, mem: &mut [u8], macs: &mut [u8], i: usize)
-    ensures { (length mem.new ≡ length mem.old)
-        × (length macs.new ≡ length macs.old) }
-{
-    if x == 2 {
-        sign(high, low, mem, i);
-        return;
-    }
-    if x == 3 {
-        seal(high, low, mem, macs, i);
-        return;
+    if i < mem.len() / 64 {
+        let at = i * 64;
+        let _ = depot::sign(drk, at as u64, &mut mem[at..at + 64]);
     }
 }
 
-// Signs and seals the lines that are noted so, under the DRK in two words.
-fn protect(high: u64, low: u64, mem: &mut [u8], macs: &mut [u8], uses: &[u8])
+// Seals the data line i of memory, and lays its MAC into the MAC area.
+fn seal(drk: Drk, mem: &mut [u8], macs: &mut [u8], i: usize)
     ensures { (length mem.new ≡ length mem.old)
         × (length macs.new ≡ length macs.old) }
 {
-    let mut i: usize = 0;
-    while i < uses.len() {
-        protect_line(uses[i], high, low, mem, macs, i);
-        i += 1;
+    if i < mem.len() / 64 && i < macs.len() / 16 {
+        let at = i * 64;
+        let _ = depot::seal(
+            drk,
+            at as u64,
+            &mut mem[at..at + 64],
+            &mut macs[i * 16..i * 16 + 16],
+        );
+    }
+}
+
+// Signs and seals the lines that are noted so.
+fn protect(drk: Drk, mem: &mut [u8], macs: &mut [u8], uses: &[Option<Use>; 1024])
+    ensures { (length mem.new ≡ length mem.old)
+        × (length macs.new ≡ length macs.old) }
+{
+    for (i, used) in uses.iter().enumerate() {
+        match used {
+            Some(Use::Code) => sign(drk, mem, i),
+            Some(Use::Data) => seal(drk, mem, macs, i),
+            Some(Use::Plain) | None => {}
+        }
     }
 }
 
 // Lays the lines of a board's text into memory, signs the code lines, seals the data lines and lays their MACs into the
-// MAC area, under the DRK in two words.
-pub fn load(text: &[u8], high: u64, low: u64, mem: &mut [u8], macs: &mut [u8]) -> Laid
-    ensures { (result.line ≤ length text.now)
-        × (length mem.new ≡ length mem.old)
-        × (length macs.new ≡ length macs.old) }
+// MAC area, under the DRK.
+pub fn load(text: &[u8], drk: Drk, mem: &mut [u8], macs: &mut [u8]) -> Result<(), Misread>
+    ensures line { IfErr result (λ m. m.line ≤ length text.now) }
+    ensures memory { length mem.new ≡ length mem.old }
+    ensures area { length macs.new ≡ length macs.old }
 {
-    let mut uses = [0u8; 1024];
-    let r = lay(text, mem, &mut uses);
-    if r.error != 0 {
-        return r;
-    }
-    protect(high, low, mem, macs, &uses);
-    r
+    let mut uses = [None; 1024];
+    lay(text, mem, &mut uses)?;
+    protect(drk, mem, macs, &uses);
+    Ok(())
 }

@@ -1,5 +1,6 @@
 -- Each way that a wish may go is what the cached memory makes of it.
 use Prim.Native.Nat.{ℕ, ◌+◌, ◌*◌, ◌/◌, ◌%◌, ◌≤◌, ◌<◌}
+use Rattle.std.specs.Prelude.{Option, Some, None}
 use native.Mathlib.Omega.{arith}
 use mathlib.Core.Path.{◌≡◌, refl, sym, ap, ◌∙◌}
 use mathlib.Core.Bool.{Bool, true, false}
@@ -11,7 +12,7 @@ use Rattle.lists.specs.If.{if}
 use Rattle.lists.specs.Parts.{part_at, put_at}
 use Rattle.lists.specs.Words.{little, little_bytes}
 use Rattle.lists.proofs.PartLaws.{part_part}
-use Rattle.model.specs.Tags.{Tag, no_tag, secure_instruction, tag_named}
+use Rattle.model.specs.Tags.{Tag, no_tag, secure_instruction}
 use Rattle.model.specs.Lines.{line_at, put_line}
 use Rattle.model.specs.Log.{Counts, no_counts, counts_of}
 use Rattle.model.specs.Placement.{Placement, holding}
@@ -20,16 +21,17 @@ use Rattle.model.specs.Cached.{Cached, Did, cached, cached_handle, ready_place, 
 use Rattle.model.specs.Cached.{serves, evict_all, evict_place, fill_place, then_do}
 use Rattle.model.proofs.CachedRules.{ready_hit, ready_miss}
 use Rattle.directory.specs.Direct.{direct}
-use Rattle.instructions.specs.Wishes.{Wish, idle, word, grant, got_from}
-use Rattle.sealing.specs.Lines.{drk_of}
+use Rattle.directory.specs.TagIn.{tag_in}
+use Rattle.directory.specs.declared.tag.Tag as code
+use Rattle.instructions.specs.Wishes.{Wish, idle, word, new_key, grant, got_from}
 use Rattle.ciphers.specs.Cipher.{aes_cipher}
 use Rattle.cache.specs.Lent.{Fit}
 use Rattle.cache.specs.Does.{Does}
 use Rattle.cache.proofs.Dropping.{choose-slot}
 use Rattle.directory.proofs.DirectLaws.{direct_laws}
 use Rattle.machine.specs.Grants.{Grants, Obtains, Inside, Touches, fetch_of}
-use Rattle.registers.specs.Wanted.{wish_of}
-use Rattle.registers.specs.declared.decide.Wanted.{Wanted}
+use Rattle.registers.specs.Wanted.{wish_in}
+use Rattle.registers.specs.declared.decide.Wish.TheVariants.{Word}
 use Rattle.machine.proofs.InsideLaws.{put_inside}
 
 -- a hit uses the slot and does nothing else, and a miss is the slow way
@@ -118,22 +120,22 @@ pub fetch_idle : (s : Cached) (fault mode pc : ℕ) (k : Counts) → k ≡ no_co
 unfolding fetch_of
 fetch_idle s fault mode pc k z h = rw (z, ne_eqb fault 0 h) (idle_granted s)
 
-module _ (s t : Cached) (fault mode pc tag p : ℕ) (ok : Bool) (k : Counts)
+module _ (s t : Cached) (fault mode pc : ℕ) (tag : Tag) (p : ℕ) (ok : Bool) (k : Counts)
     (chosen : p ≡ direct.choose s.dir (pc / 64)) (right : fault ≡ 0)
-    (e : tag_named tag ≡ if (eqb mode 1) secure_instruction no_tag)
-    (D : Does (ready_place aes_cipher direct (tag_named tag) (pc / 64) p s) ok k t) where
+    (e : tag ≡ if (eqb mode 1) secure_instruction no_tag)
+    (D : Does (ready_place aes_cipher direct tag (pc / 64) p s) ok k t) where
   pub fetch_read : (x M : ℕ) → Inside pc 4 M → ok ≡ true
       → x ≡ little (part_at (p * 64 + pc % 64) 4 t.cache)
       → Grants (fetch_of fault mode pc) s false x k t
   unfolding fetch_of
   fetch_read x M I o q =
-      let g = read_granted s t (tag_named tag) pc 4 p k chosen 0 x I.place q (rw o at D) in
+      let g = read_granted s t tag pc 4 p k chosen 0 x I.place q (rw o at D) in
       rw (eq-eqb fault 0 right, ← e) g
 
   pub fetch_failed : ok ≡ false → Grants (fetch_of fault mode pc) s true 0 k t
   unfolding fetch_of
   fetch_failed o =
-      let g = failed_granted s t (tag_named tag) pc 4 p k chosen false 0 (rw o at D) in
+      let g = failed_granted s t tag pc 4 p k chosen false 0 (rw o at D) in
       rw (eq-eqb fault 0 right, ← e) g
 
 -- buffers are those of the next memory
@@ -152,23 +154,16 @@ grants_obtains wish s t failed x k G =
           };
     }
 
--- the data access
-pub access-idle : (s : Cached) (q : Wanted) (k : Counts) → k ≡ no_counts → (q.kind ≡ 1 → ⊥)
-    → (q.kind ≡ 2 → ⊥)
-    → Obtains (wish_of q) s false 0 k s.mem s.macs s.cache s.dir
-unfolding wish_of
-access-idle s q k z a b =
-    rw (z, ne_eqb q.kind 1 a, ne_eqb q.kind 2 b) (grants_obtains idle s s false 0 no_counts (idle_granted s))
+-- the data access: nothing, or another key
+pub access_idle : (s : Cached) (k : Counts) → k ≡ no_counts → Obtains idle s false 0 k s.mem s.macs s.cache s.dir
+access_idle s k z = rw z (grants_obtains idle s s false 0 no_counts (idle_granted s))
 
-pub access-rekey : (s t : Cached) (q : Wanted) (k : Counts)
-    → q.kind ≡ 2 → Does (evict_all aes_cipher direct s) true k t
-    → Obtains (wish_of q) s false 0 k t.mem t.macs t.cache t.dir
-unfolding wish_of grant perform cached cached_handle
-access-rekey s t q k b D =
+pub access_rekey : (s t : Cached) (key : List ℕ) (k : Counts) → Does (evict_all aes_cipher direct s) true k t
+    → Obtains (new_key key) s false 0 k t.mem t.macs t.cache t.dir
+unfolding grant perform cached cached_handle
+access_rekey s t key k D =
     let e = D.left in
-    let key = drk_of q.value q.other in
-    rw b
-    (record {
+    record {
       grants =
           record {
             missed = refl;
@@ -176,57 +171,30 @@ access-rekey s t q k b D =
             counted = D.counted ∙ ap counts_of (sym (append-nil (evict_all aes_cipher direct s).log));
             left = λ i. record { key = key; mem = (e i).mem; macs = (e i).macs; cache = (e i).cache; dir = (e i).dir };
           };
-    })
+    }
 
--- a word of a slot written, or only read
-module _ (slot at tag n : ℕ) (write : Bool) (v r : ℕ) (cache dir : List ℕ)
-    (a : r ≡ little (part_at (slot * 64 + at) 8 cache)) where
-  pub touches_write : (cache' dir' : List ℕ) → write ≡ true
-      → cache' ≡ put_at (slot * 64 + at) 8 (little_bytes 8 v) cache
-      → dir' ≡ direct.put dir slot (holding n (tag_named tag) true)
-      → Touches slot at tag n write v r cache dir cache' dir'
-  touches_write cache' dir' h b d = record { number = a; bytes = rw h b; marks = rw h d }
+-- or a word
+module _ (s t : Cached) (tag : code.Tag) (a p : ℕ) (ok : Bool) (k : Counts)
+    (chosen : p ≡ direct.choose s.dir (a / 64))
+    (D : Does (ready_place aes_cipher direct (tag_in tag) (a / 64) p s) ok k t) where
+  pub word_failed : (store : Option ℕ) → ok ≡ false
+      → Obtains (wish_in (Word tag a store)) s true 0 k t.mem t.macs t.cache t.dir
+  word_failed None o =
+      grants_obtains _ s t true 0 k (failed_granted s t (tag_in tag) a 8 p k chosen false 0 (rw o at D))
+  word_failed (Some v) o =
+      grants_obtains _ s t true 0 k (failed_granted s t (tag_in tag) a 8 p k chosen true v (rw o at D))
 
-  pub touches_read : write ≡ false → Touches slot at tag n write v r cache dir cache dir
-  touches_read h = record { number = a; bytes = rw h; marks = rw h }
-
-module _ (s t : Cached) (q : Wanted) (p : ℕ) (ok : Bool) (k : Counts)
-    (chosen : p ≡ direct.choose s.dir (q.address / 64)) (a : q.kind ≡ 1)
-    (D : Does (ready_place aes_cipher direct (tag_named q.tag) (q.address / 64) p s) ok k t) where
-  abbrev wish : Bool → Wish
-  wish write = word (tag_named q.tag) q.address 8 write q.value
-
-  abbrev after : List ℕ → List ℕ → Cached
-  after cache' dir' = record { key = t.key; mem = t.mem; macs = t.macs; cache = cache'; dir = dir' }
-
-  pub access-failed : ok ≡ false → Obtains (wish_of q) s true 0 k t.mem t.macs t.cache t.dir
-  unfolding wish_of
-  access-failed o =
-      let g = failed_granted s t (tag_named q.tag) q.address 8 p k chosen q.write q.value (rw o at D) in
-      rw (eq-eqb q.kind 1 a) (grants_obtains (wish q.write) s t true 0 k g)
-
-  touched : (write : Bool) (x M : ℕ) (cache' dir' : List ℕ) → Inside q.address 8 M → ok ≡ true
+  pub word_done : (store : Option ℕ) (x M : ℕ) (cache' dir' : List ℕ) → Inside a 8 M → ok ≡ true
       → p * 64 + 64 ≤ length t.cache
-      → Touches p (q.address % 64) q.tag (q.address / 64) write q.value x t.cache t.dir cache' dir'
-      → Grants (wish write) s false x k (after cache' dir')
-  touched true x M cache' dir' I o z T =
-      write_granted s t (tag_named q.tag) q.address 8 p k chosen q.value x cache' dir' I.place z
-      T.number
-      T.bytes T.marks (rw o at D)
-  touched false x M cache' dir' I o z T =
+      → Touches p (a % 64) (tag_in tag) (a / 64) store x t.cache t.dir cache' dir'
+      → Obtains (wish_in (Word tag a store)) s false x k t.mem t.macs cache' dir'
+  word_done None x M cache' dir' I o z T =
+      let g = read_granted s t (tag_in tag) a 8 p k chosen 0 x I.place T.number (rw o at D) in
+      rw (T.bytes, T.marks) (grants_obtains _ s t false x k g)
+  word_done (Some v) x M cache' dir' I o z T =
       let g =
-      read_granted s t (tag_named q.tag) q.address 8 p k chosen q.value x I.place T.number (rw o at D) in
-      rw (T.bytes, T.marks) g
-
-  pub access-done : (x M : ℕ) (cache' dir' : List ℕ) → Inside q.address 8 M → ok ≡ true
-      → p * 64 + 64 ≤ length t.cache
-      → Touches p (q.address % 64) q.tag (q.address / 64) q.write q.value x t.cache t.dir cache'
-      dir'
-      → Obtains (wish_of q) s false x k t.mem t.macs cache' dir'
-  unfolding wish_of
-  access-done x M cache' dir' I o z T =
-      let g = touched q.write x M cache' dir' I o z T in
-      rw (eq-eqb q.kind 1 a) (grants_obtains (wish q.write) s (after cache' dir') false x k g)
+      write_granted s t (tag_in tag) a 8 p k chosen v x cache' dir' I.place z T.number T.bytes T.marks (rw o at D) in
+      grants_obtains _ s _ false x k g
 
 -- a line's slot lies within the cache's bytes, and a line's number is small
 pub slot-room : (s : Cached) (p : ℕ) → Fit s → p < length s.dir → p * 64 + 64 ≤ length s.cache

@@ -1,7 +1,7 @@
 -- The loop of run: what is done after i steps, and what is still to do.
 use Prim.Native.Nat.{ℕ, suc, ◌+◌, ◌-◌, ◌*◌, ◌/◌, ◌≤◌, ◌<◌}
 use native.Mathlib.Omega.{arith}
-use mathlib.Core.Path.{◌≡◌, refl, sym, ap, ◌∙◌}
+use mathlib.Core.Path.{◌≡◌, sym, ap, ◌∙◌}
 use mathlib.Core.Bool.{true, false}
 use mathlib.Core.List.{List, [], ◌++◌}
 use lib.ListN.{length}
@@ -93,13 +93,9 @@ module _ (j i : ℕ) (m m' : Machine Cached) (fault : ℕ) (e : Counts) (S : Ste
       let g : eqb st.out.fault 0 ≡ false = ne_eqb st.out.fault 0 (λ q. z (S.number ∙ q)) in
       rw (g, next-is)
 
+-- after i steps: the memory is fit, what was counted is small, and the whole run is what was done and what is to do
 pub record Going (n i : ℕ) (m₀ m : Machine Cached) (k : Counts) : Type 0 where
-  pub within : i ≤ n
   pub fit : Fit m.memory
-  pub mem : length m.memory.mem ≡ length m₀.memory.mem
-  pub macs : length m.memory.macs ≡ length m₀.memory.macs
-  pub cache : length m.memory.cache ≡ length m₀.memory.cache
-  pub dir : length m.memory.dir ≡ length m₀.memory.dir
   pub small : Small (i * 130) k
   pub number : (running n 0 m₀).answer ≡ (running (n - i) i m).answer
   pub done : (running n 0 m₀).steps ≡ (running (n - i) i m).steps
@@ -111,12 +107,7 @@ unfolding no_counts
 going_none n m F =
     let e : n - 0 ≡ n = omega arith in
     record {
-      within = omega arith;
       fit = F;
-      mem = refl;
-      macs = refl;
-      cache = refl;
-      dir = refl;
       small = record { filled = omega arith; written = omega arith; checked = omega arith; made = omega arith };
       number = rw e;
       done = rw e;
@@ -137,7 +128,7 @@ small_more i j k r a b e =
     })
 
 module _ (n i : ℕ) (m₀ m m' : Machine Cached) (fault : ℕ) (k e r : Counts) (h : i < n)
-    (c : length m₀.memory.dir ≤ 64) (G : Going n i m₀ m k) (S : Steps m fault e m') (q : r ≡ plus k e)
+    (c : length m.memory.dir ≤ 64) (G : Going n i m₀ m k) (S : Steps m fault e m') (q : r ≡ plus k e)
   where
     abbrev j : ℕ
     j = n - (i + 1)
@@ -146,7 +137,7 @@ module _ (n i : ℕ) (m₀ m m' : Machine Cached) (fault : ℕ) (k e r : Counts)
     left = omega arith
 
     small_now : Small ((i + 1) * 130) r
-    small_now = small_more i k e r G.small (step_small m m' fault e G.fit (omega (arith, G.dir)) S) q
+    small_now = small_more i k e r G.small (step_small m m' fault e G.fit c S) q
 
     sums : (rest : List Note) → plus k (counts_of ((st j i m m' fault e S).log ++ rest)) ≡ plus r (counts_of rest)
     sums rest =
@@ -154,10 +145,8 @@ module _ (n i : ℕ) (m₀ m m' : Machine Cached) (fault : ℕ) (k e r : Counts)
         ∙ (sym (plus_assoc k (counts_of (st j i m m' fault e S).log) (counts_of rest))
         ∙ ap (λ (z : Counts). plus z (counts_of rest)) (ap (plus k) (sym S.counted) ∙ sym q))
 
-    pub going_more : fault ≡ 0 → length m'.memory.mem ≡ length m.memory.mem
-        → length m'.memory.macs ≡ length m.memory.macs → length m'.memory.cache ≡ length
-        m.memory.cache → length m'.memory.dir ≡ length m.memory.dir → Going n (i + 1) m₀ m' r
-    going_more z hm ha hc hd =
+    pub going_more : fault ≡ 0 → Going n (i + 1) m₀ m' r
+    going_more z =
         let o : running (n - i) i m ≡ record {
           answer = (running j (i + 1) m').answer;
           steps =
@@ -168,12 +157,7 @@ module _ (n i : ℕ) (m₀ m m' : Machine Cached) (fault : ℕ) (k e r : Counts)
               (st j i m m' fault e S).log ++ (running j (i + 1) m').log;
         } = rw left (run_on j i m m' fault e S z) in
         record {
-          within = omega arith;
           fit = steps-fit m m' fault e G.fit S;
-          mem = hm ∙ G.mem;
-          macs = ha ∙ G.macs;
-          cache = hc ∙ G.cache;
-          dir = hd ∙ G.dir;
           small = small_now;
           number = G.number ∙ ap (λ (x : Result Cached). x.answer) o;
           done = G.done ∙ ap (λ (x : Result Cached). x.steps) o;
@@ -201,13 +185,13 @@ module _ (n i : ℕ) (m₀ m m' : Machine Cached) (fault : ℕ) (k e r : Counts)
         }
 
 pub going_all : (n i : ℕ) (m₀ m : Machine Cached) (k : Counts) → i ≡ n → Going n i m₀ m k
-    → Runs n m₀ 0 i k m
+    → Runs n m₀ 0 n k m
 unfolding run_from counts_of
 going_all n i m₀ m k h G =
     let e : n - i ≡ 0 = omega arith in
     record {
       number = sym (rw e at G.number);
-      done = sym (rw e at G.done);
+      done = sym (rw e at G.done ∙ h);
       machine = sym (rw e at G.machine);
       counted = sym (rw e at G.counted ∙ plus_nothing k);
     }

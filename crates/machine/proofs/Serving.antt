@@ -1,17 +1,17 @@
--- The number of a slot that is to serve, and the tag of a fetch.
+-- The number of a slot that is to serve, and whether a fault is there.
 use Prim.Native.Nat.{ℕ, ◌/◌, ◌<◌}
-use mathlib.Core.Path.{◌≡◌}
-use mathlib.Core.Bool.{true}
+use mathlib.Core.Path.{◌≡◌, refl, sym}
+use mathlib.Core.Bool.{true, false, true≢false}
+use Rattle.std.specs.Prelude.{Option, Some, None, is_some}
+use Rattle.answers.specs.declared.faults.Fault.{Fault}
+use Rattle.answers.specs.Numbers.{fault_in}
 use lib.ListN.{length, get_or}
-use lib.Dec.{eqb}
-use borrow.Author.Tests.{eq-eqb, ne_eqb}
-use Rattle.lists.specs.If.{if}
-use Rattle.model.specs.Tags.{no_tag, secure_instruction, tag_named}
 use Rattle.model.specs.Cached.{Cached}
 use Rattle.directory.specs.Numbers.{is_number}
 use Rattle.directory.proofs.NumberLaws.{fine-number}
 use Rattle.directory.proofs.DirectLaws.{direct_laws}
 use Rattle.cache.specs.Lent.{Fit}
+use Rattle.registers.proofs.Decoding.{fault_number_some}
 
 -- a slot of a fit directory has a directory number
 pub slot-number : (s : Cached) (p : ℕ) → Fit s → p < length s.dir → is_number (get_or s.dir p 0) ≡ true
@@ -19,11 +19,11 @@ unfolding direct_laws
 slot-number s p F hp = fine-number (length s.mem / 64) (length s.dir) p (get_or s.dir p 0)
     (F.orderly.numbers p hp)
 
--- the tag of a fetch
-pub active-tag : (m : ℕ) → m ≡ 1 → tag_named 1 ≡ if (eqb m 1) secure_instruction no_tag
-unfolding tag_named
-active-tag m e = rw (eq-eqb m 1 e)
+-- whether a fault is there is whether its number is not 0
+pub fault_none : (f : Option Fault) → false ≡ is_some f → fault_in f ≡ 0
+fault_none None h = refl
+fault_none (Some f) h = absurd (true≢false (sym h))
 
-pub passive_tag : (m : ℕ) → (m ≡ 1 → ⊥) → tag_named 0 ≡ if (eqb m 1) secure_instruction no_tag
-unfolding tag_named
-passive_tag m e = rw (ne_eqb m 1 e)
+pub fault_some : (f : Option Fault) → true ≡ is_some f → fault_in f ≡ 0 → ⊥
+fault_some None h = absurd (true≢false h)
+fault_some (Some f) h = fault_number_some f

@@ -1,5 +1,6 @@
 -- One instruction put together from its phases.
 use Prim.Native.Nat.{ℕ, ◌+◌, ◌*◌, ◌/◌, ◌%◌}
+use Rattle.std.specs.Prelude.{Option, Some, None, Result, Ok, Err}
 use native.Mathlib.Omega.{arith}
 use mathlib.Core.Path.{◌≡◌, refl, sym, ap, ap₂, ◌∙◌, subst}
 use mathlib.Core.Bool.{Bool, true, false}
@@ -9,7 +10,7 @@ use lib.Dec.{eqb}
 use borrow.Author.Tests.{eq-eqb, ne_eqb}
 use Rattle.lists.specs.If.{if}
 use Rattle.lists.proofs.Cases.{by_test, by-eq}
-use Rattle.model.specs.Tags.{Tag, tag_named}
+use Rattle.model.specs.Tags.{Tag}
 use Rattle.model.specs.Log.{Counts, counts_of, plus}
 use Rattle.model.specs.Requests.{Ran, perform}
 use Rattle.model.specs.Cached.{Cached, cached, cached_handle, access_place, ready_place, write_place, hit_place, then_do}
@@ -33,15 +34,24 @@ use Rattle.sound.proofs.Programs.{FairWish, fair_word, fetch_fair, data_fair, gr
 use Rattle.sound.proofs.Bounds.{any_within}
 use Rattle.ciphers.specs.Cipher.{aes_cipher}
 use Rattle.ciphers.proofs.Laws.{aes_laws}
-use Rattle.cache.specs.Lent.{lent, Fit}
+use Rattle.answers.specs.declared.faults.Fault.{Fault}
+use Rattle.answers.specs.Numbers.{fault_in, fault_of}
+use Rattle.cache.specs.Lent.{Fit, counts_in}
+use Rattle.cache.specs.Held.{memory_in}
+use Rattle.cache.specs.declared.buffers.Buffers.{Buffers}
 use Rattle.cache.proofs.Following.{good-fit, Small}
-use Rattle.registers.specs.Map.{processor_of, key_of}
-use Rattle.registers.specs.Wanted.{Decides, wish_of}
+use Rattle.registers.specs.Map.{processor_of, key_of, drk_held}
+use Rattle.registers.specs.Wanted.{Decides, wish_in, wish_of, got_in}
 use Rattle.registers.specs.Effects.{Finishes, next_key}
-use Rattle.registers.specs.declared.decide.Wanted.{Wanted}
+use Rattle.registers.specs.declared.decide.Wish as code
+use Rattle.registers.specs.declared.decide.Wish.TheVariants.{Nothing, Word, NewKey}
+use Rattle.directory.specs.TagIn.{tag_in}
+use Rattle.std.specs.Result.{result_unwrap_or, result_err}
 use Rattle.registers.specs.declared.record.Special.{Special}
-use Rattle.machine.specs.Grants.{Grants, Obtains, Inside}
-use Rattle.machine.specs.Steps.{Steps, machine_of}
+use Rattle.machine.specs.Grants.{Grants, Inside}
+use Rattle.machine.specs.Found.{Finds, FindsIn, Reaches}
+use Rattle.machine.specs.Steps.{Steps, machine_on}
+use Rattle.machine.specs.declared.phase.Found.{Found}
 
 -- a line has eight words
 eight_words : 8 * document_board.word_bytes ≡ 64
@@ -59,6 +69,29 @@ inside_word : (N M : ℕ) (tag : Tag) (a k : ℕ) (write : Bool) (v : ℕ) → M
     → Inside a k M
 inside_word N M tag a k write v e (fair_word line place t) = record { line = omega arith; place = place }
 
+-- what is decided reaches no further than a fair wish
+wish-inside : (N M : ℕ) (x : Result code.Wish Fault) → M ≡ N * 64 → FairWish N (wish_of x)
+    → Reaches (result_unwrap_or x Nothing) M
+wish-inside N M (Err f) e fair = tt
+wish-inside N M (Ok Nothing) e fair = tt
+wish-inside N M (Ok (Word tag a None)) e fair = inside_word N M (tag_in tag) a 8 false 0 e fair
+wish-inside N M (Ok (Word tag a (Some v))) e fair = inside_word N M (tag_in tag) a 8 true v e fair
+wish-inside N M (Ok (NewKey drk)) e fair = tt
+
+-- the wish that the code has done is the decision's, and its fault the one that is known
+wish-done : (x : Result code.Wish Fault) → wish_in (result_unwrap_or x Nothing) ≡ wish_of x
+wish-done (Ok wish) = refl
+wish-done (Err f) = refl
+
+-- the fault in place of an answer, as an option
+fault-err : {A : Type 0} (x : Result A Fault) → fault_in (result_err x) ≡ fault_of x
+fault-err (Ok x) = refl
+fault-err (Err f) = refl
+
+pub err_fault : {A : Type 0} (x : Result A Fault) (e : Option Fault) (n : ℕ) → e ≡ result_err x → fault_of x ≡ n
+    → fault_in e ≡ n
+err_fault x e n h k = rw h (fault-err x ∙ k)
+
 -- a fetch without fault lies in one line of memory
 pub fetch_inside : (M : ℕ) (p : Processor) → M % 64 ≡ 0 → fetch_fault M p ≡ 0 → Inside p.pc 4 M
 unfolding fetch_wish fetch_of
@@ -68,15 +101,13 @@ fetch_inside M p h z =
     inside_word N M _ p.pc 4 false 0 e (rw (eq-eqb (fetch_fault M p) 0 z) at (fetch_fair N M p e))
 
 -- and so does a data access
-pub data_inside : (M : ℕ) (key : List ℕ) (p : Processor) (got : Got) (q : Wanted) → M % 64 ≡ 0
-    → Decides document_board aes_cipher M key p got q → q.kind ≡ 1 → Inside q.address 8 M
-unfolding wish_of
-data_inside M key p got q h D k =
+pub data_inside : (M : ℕ) (key : List ℕ) (p : Processor) (got : Got) (x : Result code.Wish Fault) → M % 64 ≡ 0
+    → Decides document_board aes_cipher M key p got x → Reaches (result_unwrap_or x Nothing) M
+data_inside M key p got x h D =
     let N = M / 64 in
     let e : M ≡ N * 64 = omega arith in
     let fair = data_fair document_board 8 eight_words N M e p aes_cipher key got in
-    let f : FairWish N (wish_of q) = subst (FairWish N) (sym D.wish) fair in
-    inside_word N M (tag_named q.tag) q.address 8 q.write q.value e (rw k at f)
+    wish-inside N M x e (subst (FairWish N) (sym D.wish) fair)
 
 -- after a fair wish the memory is fit
 pub granted_fit : (wish : Wish) (s t : Cached) (failed : Bool) (n : ℕ) (k : Counts)
@@ -174,52 +205,51 @@ module _ (M : ℕ) (key : List ℕ) (p : Processor) (got : Got) (s : Cached) whe
       rw (y, ne_eqb (known_fault document_board M p got) 0 h) (sym k ∙ sym ((key_faulty h).kept s)))
 
 -- one instruction, from its phases
-module _ (regs : List ℕ) (q : Special) (mem macs cache dir : List ℕ) where
+module _ (regs : List ℕ) (q : Special) (lent : Buffers) where
   abbrev p : Processor
   p = processor_of regs q
 
   abbrev s : Cached
-  s = lent q.drkhi q.drklo mem macs cache dir
+  s = memory_in (drk_held q) lent
 
-  pub stepped : (f : ℕ) (failed : Bool) (n : ℕ) (k₁ : Counts) (t : Cached) (x : Wanted) (failed₂ : Bool)
-      (n₂ : ℕ)
-      (k₂ k : Counts)
-      (mem' macs' cache' dir' regs' : List ℕ) (q' : Special) (fault : ℕ)
-      → f ≡ fetch_fault (length mem) p
-      → t.key ≡ key_of q
-      → Grants (fetch_of f q.mode q.pc) s failed n k₁ t
-      → Decides document_board aes_cipher (length mem) (key_of q) p (record { failed = failed; number = n }) x
-      → Obtains (wish_of x) t failed₂ n₂ k₂ mem' macs' cache' dir' → k ≡ plus k₁ k₂
-      → Finishes document_board aes_cipher (length mem) (key_of q) p (record { failed = failed; number = n })
-      (record { failed = failed₂; number = n₂ }) fault regs' q'
-      → Steps (machine_of regs q mem macs cache dir) fault k (machine_of regs' q' mem' macs' cache' dir')
+  pub stepped : (f : ℕ) (found : Found) (fetched : Buffers) (x : Result code.Wish Fault) (done : Found)
+      (b : Buffers) (k : Counts) (regs' : List ℕ) (q' : Special) (fault : ℕ)
+      → f ≡ fetch_fault (length s.mem) p
+      → Finds (fetch_of f q.mode q.pc) s found (memory_in (drk_held q) fetched)
+      → Decides document_board aes_cipher (length s.mem) (key_of q) p (got_in found.number) x
+      → FindsIn (wish_in (result_unwrap_or x Nothing)) (memory_in (drk_held q) fetched) done b
+      → k ≡ plus (counts_in found.counts) (counts_in done.counts)
+      → Finishes document_board aes_cipher (length s.mem) (key_of q) p (got_in found.number) (got_in done.number)
+      fault regs' q'
+      → Steps (machine_on regs q lent) fault k (machine_on regs' q' b)
   unfolding step cached_setup cached fetch_phase data_phase document_board
-  stepped f failed n k₁ t x failed₂ n₂ k₂ k mem' macs' cache' dir' regs' q' fault e tk G D O c F =
-      let M = length mem in
+  stepped f found fetched x done b k regs' q' fault e G D O c F =
+      let t = memory_in (drk_held q) fetched in
+      let M = length s.mem in
       let C = cached aes_cipher direct in
-      let got : Got = record { failed = failed; number = n } in
-      let data' : Got = record { failed = failed₂; number = n₂ } in
+      let got : Got = got_in found.number in
+      let data' : Got = got_in done.number in
       let wish : Got → Wish = data_wish document_board aes_cipher (key_of q) M p in
       let end : Got → Got → Stepped = finished document_board aes_cipher (key_of q) M p in
       let A = perform C (grant (fetch_wish M p)) s in
       let u : fetch_of f q.mode q.pc ≡ fetch_wish M p = fetch_wish_lem M p f e in
-      let G' : Grants (fetch_wish M p) s failed n k₁ t = rw u at G in
+      let G' : Finds (fetch_wish M p) s found t = rw u at G in
       let o₁ : got ≡ A.out = λ i. record { failed = G'.missed i; number = G'.found i } in
       let B = perform C (grant (wish got)) t in
-      let H = rw D.wish at O.grants in
+      let H = rw (wish-done x, D.wish) at O.grants in
       let o₂ : data' ≡ B.out = λ i. record { failed = H.missed i; number = H.found i } in
       let A-then = perform C (grant (wish A.out)) A.state in
       let same-data : A-then ≡ B = λ i. perform C (grant (wish (sym o₁ i))) (sym G'.left i) in
       let same_out : data' ≡ A-then.out = o₂ ∙ ap (λ z. z.out) (sym same-data) in
       let ph = phases C document_board aes_cipher (key_of q) M p s in
       let key-is : key_of q' ≡ B.state.key =
-      F.drk ∙ key-after M (key_of q) p got t data' fault tk H.missed F.number in
+      F.drk ∙ key-after M (key_of q) p got t data' fault refl H.missed F.number in
       let counts = ap₂ plus G'.counted (H.counted ∙ ap (λ z. counts_of z.log) (sym same-data)) in
       record {
         number = F.number ∙ (λ i. (end (o₁ i) (same_out i)).fault) ∙ ap (λ z. z.out.fault) (sym ph);
         processor = F.holds ∙ (λ i. (end (o₁ i) (same_out i)).processor) ∙ ap (λ z. z.out.processor) (sym ph);
         memory =
-            (λ i. record { key = key-is i; mem = mem'; macs = macs'; cache = cache'; dir = dir' })
+            (λ i. record { key = key-is i; mem = b.mem.now; macs = b.macs.now; cache = b.cache.now; dir = b.dir.now })
             ∙ (H.left ∙ (ap (λ z. z.state) (sym same-data) ∙ ap (λ z. z.state) (sym ph)));
         counted = c ∙ (counts ∙ (sym (counts-append A.log A-then.log)
             ∙ ap (λ z. counts_of z.log) (sym ph)));

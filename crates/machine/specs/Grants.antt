@@ -1,9 +1,8 @@
 -- What a memory phase promises: what the cached memory makes of a wish, its counts being the sums over the notes.
-use Rattle.std.specs.Prelude.{ℕ, ◌+◌, ◌*◌, ◌/◌, ◌%◌, ◌<◌, ◌≤◌, ◌≡◌, Bool, true, List}
+use Rattle.std.specs.Prelude.{ℕ, ◌+◌, ◌*◌, ◌/◌, ◌%◌, ◌<◌, ◌≤◌, ◌≡◌, Bool, true, List, Option, Some, None}
 use Rattle.lists.specs.Parts.{part_at, put_at}
 use Rattle.lists.specs.Words.{little, little_bytes}
-use Rattle.lists.specs.If.{if}
-use Rattle.model.specs.Tags.{tag_named}
+use Rattle.model.specs.Tags.{Tag}
 use Rattle.model.specs.Log.{Counts, counts_of}
 use Rattle.model.specs.Placement.{holding}
 use Rattle.model.specs.Requests.{perform}
@@ -37,9 +36,19 @@ pub record Inside (a k M : ℕ) : Type 0 where
   pub line : a / 64 < M / 64
   pub place : a % 64 + k ≤ 64
 
--- the word at a place of a slot is read, and where the test says so written, which makes the slot dirty
-pub record Touches (slot at tag n : ℕ) (write : Bool) (v r : ℕ) (cache dir cache' dir' : List ℕ) : Type 0
-  where
-    pub number : r ≡ little (part_at (slot * 64 + at) 8 cache)
-    pub bytes : cache' ≡ if write (put_at (slot * 64 + at) 8 (little_bytes 8 v) cache) cache
-    pub marks : dir' ≡ if write (direct.put dir slot (holding n (tag_named tag) true)) dir
+-- bytes with another word at a place of them, where one is given
+abbrev pub with_word : ℕ → Option ℕ → List ℕ → List ℕ
+with_word at None bytes = bytes
+with_word at (Some value) bytes = put_at at 8 (little_bytes 8 value) bytes
+
+-- a directory whose slot holds line n dirty under a tag, where a word was given
+abbrev pub with_mark : ℕ → Tag → ℕ → Option ℕ → List ℕ → List ℕ
+with_mark slot tag n None dir = dir
+with_mark slot tag n (Some value) dir = direct.put dir slot (holding n tag true)
+
+-- the word at a place of a slot is read and, where another is given, that one is written, which makes the slot dirty
+pub record Touches (slot at : ℕ) (tag : Tag) (n : ℕ) (store : Option ℕ) (r : ℕ) (cache dir cache' dir' : List ℕ)
+    : Type 0 where
+  pub number : r ≡ little (part_at (slot * 64 + at) 8 cache)
+  pub bytes : cache' ≡ with_word (slot * 64 + at) store cache
+  pub marks : dir' ≡ with_mark slot tag n store dir

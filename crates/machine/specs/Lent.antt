@@ -6,6 +6,7 @@ use Rattle.model.specs.Cached.{Cached}
 use Rattle.instructions.specs.Calls.{Machine}
 use Rattle.registers.specs.declared.record.Processor.{Processor}
 use Rattle.machine.specs.Steps.{machine_of}
+use Rattle.cache.specs.declared.buffers.Buffers.{Buffers}
 
 -- the record and the four buffers, as they stand before or after a call
 pub record Lent : Type 0 where
@@ -23,6 +24,10 @@ machine_in l = machine_of l.processor.r l.processor.special l.mem l.macs l.cache
 abbrev pub handed : Processor → List ℕ → List ℕ → List ℕ → List ℕ → Lent
 handed p mem macs cache dir =
     record { processor = p; mem = mem; macs = macs; cache = cache; dir = dir }
+
+-- the same of the four buffers as one value
+abbrev pub given : Processor → Buffers → Lent
+given p b = handed p b.mem.now b.macs.now b.cache.now b.dir.now
 
 -- a lent slice, on entry and at exit
 abbrev pub Slice : Type 0

@@ -9,6 +9,7 @@ use Rattle.ciphers.specs.Cipher.{aes_cipher}
 use Rattle.cache.specs.Lent.{lent}
 use Rattle.registers.specs.Map.{processor_of}
 use Rattle.registers.specs.declared.record.Special.{Special}
+use Rattle.cache.specs.declared.buffers.Buffers.{Buffers}
 
 -- the machine that is lent: R0 to R31, the other registers, and the four buffers
 abbrev pub machine_of : List ℕ → Special → List ℕ → List ℕ → List ℕ → List ℕ → Machine Cached
@@ -17,6 +18,10 @@ machine_of regs q mem macs cache dir = record {
   memory =
       lent q.drkhi q.drklo mem macs cache dir;
 }
+
+-- the same of the four buffers as one value
+abbrev pub machine_on : List ℕ → Special → Buffers → Machine Cached
+machine_on regs q b = machine_of regs q b.mem.now b.macs.now b.cache.now b.dir.now
 
 -- the fault, the counts and the next machine are those of one instruction
 pub record Steps (m : Machine Cached) (fault : ℕ) (k : Counts) (m' : Machine Cached) : Type 0 where

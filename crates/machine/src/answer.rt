@@ -4,7 +4,7 @@ use registers::record::Processor;
 
 // The answer, run's steps and the four counts.
 #[repr(C)]
-#[derive(Clone, Copy)]
+#[derive(Clone, Copy, Debug, PartialEq, Eq)]
 pub struct Report {
     pub answer: u64,
     pub steps: u64,

@@ -1,201 +1,163 @@
 // The two memory phases of a step: the fetch, and the data access.
-ghost use Rattle.std.specs.Prelude.{◌≡◌, Bool, true, false, ◌+◌, ◌*◌, ◌/◌, ◌%◌, ◌<◌, ◌≤◌, length, eqb};
+ghost use Rattle.std.specs.Prelude.{◌≡◌, ◌+◌, ◌*◌, ◌/◌, ◌<◌, ◌≤◌, length, eqb};
 ghost use Rattle.lists.specs.If.{if};
-ghost use Rattle.lists.specs.Parts.{part_at, put_at};
-ghost use Rattle.lists.specs.Words.{little, little_bytes};
-ghost use Rattle.model.specs.Tags.{no_tag, secure_instruction, tag_named};
-ghost use Rattle.model.specs.Cached.{serves, ready_place};
-ghost use Rattle.directory.specs.Numbers.{entry_of};
+ghost use Rattle.model.specs.Tags.{no_tag, secure_instruction};
+ghost use Rattle.model.specs.Cached.{ready_place};
 ghost use Rattle.directory.specs.Direct.{direct};
+ghost use Rattle.directory.specs.TagIn.{tag_in};
 ghost use Rattle.ciphers.specs.Cipher.{aes_cipher};
-ghost use Rattle.cache.specs.Lent.{lent, counts_in, Fit};
+ghost use Rattle.answers.specs.Numbers.{fault_in};
+ghost use Rattle.cache.specs.Lent.{counts_in, Fit};
+ghost use Rattle.cache.specs.Held.{SameBuffers, memory_in};
 ghost use Rattle.cache.specs.Does.{Does};
-ghost use Rattle.machine.specs.Grants.{Grants, Obtains, Inside, Touches, fetch_of};
-ghost use Rattle.machine.specs.Found.{found_with};
-ghost use Rattle.registers.specs.Wanted.{wish_of};
+ghost use Rattle.machine.specs.Grants.{Inside, Touches, fetch_of};
+ghost use Rattle.machine.specs.Found.{Finds, FindsIn, Reaches};
+ghost use Rattle.registers.specs.Wanted.{wish_in};
 
+use answers::faults::Fault;
+use cache::buffers::Buffers;
+use cache::slots;
 use cache::slots::{Counts, Ready};
-use cache::{slots, whole};
+use directory::tag::Tag;
 use directory::{number, place};
-use registers::decide::Wanted;
+use registers::decide::Wish;
+use sealing::Drk;
 
-// What came of it: did the line's check fail, the number that stood there, and what was counted.
+// What came of it: the number that stood there, none where the line's check failed, and what was counted.
 #[derive(Clone, Copy)]
 pub struct Found {
-    pub failed: bool,
-    pub number: u64,
+    pub number: Option<u64>,
     pub counts: Counts,
 }
 
-// What came of it, put together.
-fn came(failed: bool, number: u64, counts: Counts) -> Found
-    ensures { result ≡ found_with failed number counts }
-{
-    Found {
-        failed,
-        number,
-        counts,
-    }
-}
-
 // The tag of a fetch: Secure Instruction in active mode.
-fn code_tag(mode: u8) -> u32
-    ensures { (tag_named result ≡ if (eqb mode 1) secure_instruction no_tag) × (result ≤ 2) }
+//
+// Kept: the mode is a number, since C's record has it so.
+fn code_tag(mode: u8) -> Tag
+    ensures { tag_in result ≡ if (eqb mode 1) secure_instruction no_tag }
 {
     if mode == 1 {
-        return 1;
+        return Tag::SecureInstruction;
     }
-    0
+    Tag::Ordinary
 }
 
-// A code line is made ready in its slot: a hit, or the slow way.
-fn ready_code(
-    hi: u64,
-    lo: u64,
-    mem: &mut [u8],
-    macs: &mut [u8],
-    cache: &mut [u8],
-    dir: &mut [u32],
-    tag: u32,
-    n: usize,
-    slot: usize,
-) -> Ready
-    requires fit { Fit (lent hi lo mem.old macs.old cache.old dir.old) }
-    requires slot_in_bounds { (slot < length dir.old) × (n < length mem.old / 64) × (tag ≤ 2) }
-    ensures { Does (ready_place aes_cipher direct (tag_named tag) n slot
-        (lent hi lo mem.old macs.old cache.old dir.old)) result.ok
-        (counts_in result.counts) (lent hi lo mem.new macs.new cache.new dir.new) }
+// A line is made ready in its slot: a hit, or the slow way. PHASE is 0 of a code line and 1 of a data line: each of the
+// two has one caller, so that a hit stays in the step.
+fn ready<const PHASE: u8>(drk: Drk, buffers: &mut Buffers, tag: Tag, n: usize, slot: usize) -> Ready
+    requires fit { Fit (memory_in drk buffers.old) }
+    requires slot_in_bounds { (slot < length buffers.old.dir.now) × (n < length buffers.old.mem.now / 64) }
+    ensures same { SameBuffers buffers.old buffers.new }
+    ensures does { Does (ready_place aes_cipher direct (tag_in tag) n slot (memory_in drk buffers.old))
+        result.ok (counts_in result.counts) (memory_in drk buffers.new) }
 {
-    if number::serves(dir[slot], tag, n) {
-        place::touch(dir, slot);
+    if number::serves(buffers.dir[slot], tag, n) {
+        place::touch(buffers.dir, slot);
         return Ready {
             ok: true,
             counts: slots::none(),
         };
     }
-    slots::replace(hi, lo, mem, macs, cache, dir, tag, n, slot)
-}
-
-// A data line is made ready in its slot, as a code line is: each has one caller, so that a hit stays in the step.
-fn ready_data(
-    hi: u64,
-    lo: u64,
-    mem: &mut [u8],
-    macs: &mut [u8],
-    cache: &mut [u8],
-    dir: &mut [u32],
-    tag: u32,
-    n: usize,
-    slot: usize,
-) -> Ready
-    requires fit { Fit (lent hi lo mem.old macs.old cache.old dir.old) }
-    requires slot_in_bounds { (slot < length dir.old) × (n < length mem.old / 64) × (tag ≤ 2) }
-    ensures { Does (ready_place aes_cipher direct (tag_named tag) n slot
-        (lent hi lo mem.old macs.old cache.old dir.old)) result.ok
-        (counts_in result.counts) (lent hi lo mem.new macs.new cache.new dir.new) }
-{
-    if number::serves(dir[slot], tag, n) {
-        place::touch(dir, slot);
-        return Ready {
-            ok: true,
-            counts: slots::none(),
-        };
-    }
-    slots::replace(hi, lo, mem, macs, cache, dir, tag, n, slot)
+    buffers.replace(drk, tag, n, slot)
 }
 
 // The instruction word at pc, unless the fetch faulted.
-pub fn fetch(
-    hi: u64,
-    lo: u64,
-    mem: &mut [u8],
-    macs: &mut [u8],
-    cache: &mut [u8],
-    dir: &mut [u32],
-    fault: u64,
-    mode: u8,
-    pc: u64,
-) -> Found
-    requires fit { Fit (lent hi lo mem.old macs.old cache.old dir.old) }
-    requires inside { fault ≡ 0 → Inside pc 4 (length mem.old) }
-    ensures { Grants (fetch_of fault mode pc) (lent hi lo mem.old macs.old
-        cache.old dir.old) result.failed result.number (counts_in result.counts)
-        (lent hi lo mem.new macs.new cache.new dir.new) }
+pub fn fetch(drk: Drk, buffers: &mut Buffers, fault: Option<Fault>, mode: u8, pc: u64) -> Found
+    requires fit { Fit (memory_in drk buffers.old) }
+    requires inside { fault_in fault ≡ 0 → Inside pc 4 (length buffers.old.mem.now) }
+    ensures same { SameBuffers buffers.old buffers.new }
+    ensures finds { Finds (fetch_of (fault_in fault) mode pc) (memory_in drk buffers.old) result
+        (memory_in drk buffers.new) }
 {
-    if fault != 0 {
-        return came(false, 0, slots::none());
+    if fault.is_some() {
+        return Found {
+            number: Some(0),
+            counts: slots::none(),
+        };
     }
-    let tag = code_tag(mode);
     let n = (pc / 64) as usize;
+    let dir = &mut *buffers.dir;
     let slot = place::choose(dir, n);
-    let r = ready_code(hi, lo, mem, macs, cache, dir, tag, n, slot);
-    let k = r.counts;
-    if r.ok {
-        let v = words::read_four(cache, slot * 64 + (pc % 64) as usize);
-        return came(false, v, k);
+    let r = ready::<0>(drk, buffers, code_tag(mode), n, slot);
+    let number = if r.ok {
+        let cache = &mut *buffers.cache;
+        Some(words::read_four(cache, slot * 64 + (pc % 64) as usize))
+    } else {
+        None
+    };
+    Found {
+        number,
+        counts: r.counts,
     }
-    came(true, 0, k)
 }
 
-// The word at a place of a slot is read and, where the test says so, written: the slot is then dirty.
+// The word at a place of a slot is read and, where one is given, another is written: the slot is then dirty.
 fn touch(
     cache: &mut [u8],
     dir: &mut [u32],
     slot: usize,
     at: usize,
-    tag: u32,
+    tag: Tag,
     n: usize,
-    write: bool,
-    v: u64,
+    store: Option<u64>,
 ) -> u64
     requires { (slot < length dir.old) × (length cache.old ≡ length dir.old * 64) × (at + 8 ≤ 64)
-        × (tag ≤ 2) × (n ≤ 1024) }
-    ensures { Touches slot at tag n write v result cache.old dir.old cache.new
-        dir.new }
+        × (n ≤ 1024) }
+    ensures { Touches slot at (tag_in tag) n store result cache.old dir.old cache.new dir.new }
 {
     let i = slot * 64 + at;
     let x = words::read_eight(cache, i);
-    if write {
+    if let Some(v) = store {
         words::write_eight(cache, i, v);
         place::put(dir, slot, n, tag, true);
-        return x;
     }
     x
 }
 
-// What a step wants of the memory is done.
-pub fn access(
-    hi: u64,
-    lo: u64,
-    mem: &mut [u8],
-    macs: &mut [u8],
-    cache: &mut [u8],
-    dir: &mut [u32],
-    q: Wanted,
-) -> Found
-    requires fit { Fit (lent hi lo mem.old macs.old cache.old dir.old) }
-    requires inside { q.kind ≡ 1 → Inside q.address 8 (length mem.old) }
-    requires tag_bound { q.tag ≤ 2 }
-    ensures { Obtains (wish_of q) (lent hi lo mem.old macs.old cache.old
-        dir.old) result.failed result.number (counts_in result.counts) mem.new macs.new
-        cache.new dir.new }
+// The word at an address under a tag; where one is given, another is written there.
+fn word(drk: Drk, buffers: &mut Buffers, tag: Tag, address: u64, store: Option<u64>) -> Found
+    requires fit { Fit (memory_in drk buffers.old) }
+    requires inside { Inside address 8 (length buffers.old.mem.now) }
+    ensures same { SameBuffers buffers.old buffers.new }
+    ensures finds { FindsIn (wish_in (Wish.Word tag address store)) (memory_in drk buffers.old) result
+        buffers.new }
 {
-    let kind = q.kind;
-    if kind == 2 {
-        let k = whole::evict_all(hi, lo, mem, macs, cache, dir);
-        return came(false, 0, k);
-    }
-    if kind != 1 {
-        return came(false, 0, slots::none());
-    }
-    let n = (q.address / 64) as usize;
+    let n = (address / 64) as usize;
+    let dir = &mut *buffers.dir;
     let slot = place::choose(dir, n);
-    let r = ready_data(hi, lo, mem, macs, cache, dir, q.tag, n, slot);
-    let k = r.counts;
-    if r.ok {
-        let at = (q.address % 64) as usize;
-        let v = touch(cache, dir, slot, at, q.tag, n, q.write, q.value);
-        return came(false, v, k);
+    let r = ready::<1>(drk, buffers, tag, n, slot);
+    let number = if r.ok {
+        let at = (address % 64) as usize;
+        Some(touch(buffers.cache, buffers.dir, slot, at, tag, n, store))
+    } else {
+        None
+    };
+    Found {
+        number,
+        counts: r.counts,
     }
-    came(true, 0, k)
+}
+
+// What a step wishes of the memory is done.
+pub fn access(drk: Drk, buffers: &mut Buffers, wish: Wish) -> Found
+    requires fit { Fit (memory_in drk buffers.old) }
+    requires inside { Reaches wish (length buffers.old.mem.now) }
+    ensures same { SameBuffers buffers.old buffers.new }
+    ensures finds { FindsIn (wish_in wish) (memory_in drk buffers.old) result buffers.new }
+{
+    match wish {
+        Wish::Nothing => Found {
+            number: Some(0),
+            counts: slots::none(),
+        },
+        Wish::Word {
+            tag,
+            address,
+            store,
+        } => word(drk, buffers, tag, address, store),
+        Wish::NewKey(_) => Found {
+            number: Some(0),
+            counts: buffers.evict_all(drk),
+        },
+    }
 }

@@ -1,92 +1,83 @@
 // Run: at most n instructions, up to the first that faults.
 ghost use Rattle.std.specs.Prelude.{◌≡◌, ◌≤◌, length};
 ghost use Rattle.instructions.specs.Board.{opcode_table};
-ghost use Rattle.cache.specs.Lent.{lent, counts_in, Fit};
-ghost use Rattle.machine.specs.Steps.{machine_of};
+ghost use Rattle.answers.specs.Numbers.{fault_in};
+ghost use Rattle.registers.specs.Map.{drk_held};
+ghost use Rattle.cache.specs.Lent.{counts_in, Fit};
+ghost use Rattle.cache.specs.Held.{SameBuffers, memory_in};
+ghost use Rattle.machine.specs.Steps.{machine_on};
 ghost use Rattle.machine.specs.Runs.{Runs};
 
 use crate::step;
+use answers::faults::Fault;
+use cache::buffers::Buffers;
 use cache::slots;
 use cache::slots::Counts;
 use registers::record::Special;
 
-// The answer, the steps that were done, the registers after them but R0 to R31, and what was counted.
+// The fault that ended it, where one did, the steps that were done, the registers after them but R0 to R31, and what was
+// counted.
 #[derive(Clone, Copy)]
 pub struct Ran {
-    pub answer: u64,
+    pub fault: Option<Fault>,
     pub steps: u64,
     pub special: Special,
     pub counts: Counts,
 }
 
-// The loop hands out how many steps were done.
-pub fn steps(
-    t: &[u8; 64],
-    r: &mut [u64; 32],
-    q: Special,
-    mem: &mut [u8],
-    macs: &mut [u8],
-    cache: &mut [u8],
-    dir: &mut [u32],
-    n: u64,
-) -> Ran
+// At most n instructions, by a table of opcodes that is lent.
+pub fn steps(t: &[u8; 64], r: &mut [u64; 32], q: Special, buffers: &mut Buffers, n: u64) -> Ran
     requires t_value { t.now ≡ opcode_table }
-    requires in_bounds { (128 ≤ length mem.old) × (length dir.old ≤ 64) × (n ≤ 10000) }
-    requires fit { Fit (lent q.drkhi q.drklo mem.old macs.old cache.old dir.old) }
-    ensures { Runs n (machine_of r.old q mem.old macs.old cache.old
-        dir.old) result.answer result.steps (counts_in result.counts)
-        (machine_of r.new result.special mem.new macs.new cache.new
-        dir.new) }
+    requires in_bounds { (128 ≤ length buffers.old.mem.now) × (length buffers.old.dir.now ≤ 64)
+        × (n ≤ 10000) }
+    requires fit { Fit (memory_in (drk_held q) buffers.old) }
+    ensures same { SameBuffers buffers.old buffers.new }
+    ensures runs { Runs n (machine_on r.old q buffers.old) (fault_in result.fault) result.steps
+        (counts_in result.counts) (machine_on r.new result.special buffers.new) }
 {
-    let mut s = q;
-    let mut k = slots::none();
-    let mut answer: u64 = 0;
-    let mut i: u64 = 0;
-    let done = loop {
-        if i == n {
-            break i;
+    let mut special = q;
+    let mut counts = slots::none();
+    for i in 0..n {
+        let x = step::step(t, r, special, buffers);
+        special = x.special;
+        counts = slots::add(counts, x.counts);
+        if x.fault.is_some() {
+            return Ran {
+                fault: x.fault,
+                steps: i + 1,
+                special,
+                counts,
+            };
         }
-        let x = step::step(t, r, s, mem, macs, cache, dir);
-        let y = x.special;
-        s = y;
-        k = slots::add(k, x.counts);
-        i += 1;
-        if x.fault != 0 {
-            answer = x.fault;
-            break i;
-        }
-    };
+    }
     Ran {
-        answer,
-        steps: done,
-        special: s,
-        counts: k,
+        fault: None,
+        steps: n,
+        special,
+        counts,
     }
 }
 
 // For each opcode: 0 it does not exist, 1 it exists, 2 it exists and needs active mode.
+//
+// Kept: numbers, since `opcode_table` of the meaning, which `decide` asks for, has these.
 const OPCODES: [u8; 64] = [
     0, 1, 1, 1, 1, 1, 1, 1, 1, 1, 1, 1, 1, 1, 1, 1, 1, 0, 0, 0, 0, 0, 0, 0, 0, 0, 0, 0, 0, 0, 0, 0,
     1, 1, 2, 2, 2, 2, 2, 1, 2, 2, 2, 1, 0, 0, 0, 0, 0, 0, 0, 0, 0, 0, 0, 0, 0, 0, 0, 0, 0, 0, 0, 0,
 ];
 
 // Run at most n instructions. The registers are lent, so that a call copies them in and out once.
-pub fn run(
-    r: &mut [u64; 32],
-    q: Special,
-    mem: &mut [u8],
-    macs: &mut [u8],
-    cache: &mut [u8],
-    dir: &mut [u32],
-    n: u64,
-) -> Ran
-    requires in_bounds { (128 ≤ length mem.old) × (length dir.old ≤ 64) × (n ≤ 10000) }
-    requires fit { Fit (lent q.drkhi q.drklo mem.old macs.old cache.old dir.old) }
-    ensures { Runs n (machine_of r.old q mem.old macs.old cache.old
-        dir.old) result.answer result.steps (counts_in result.counts)
-        (machine_of r.new result.special mem.new macs.new cache.new
-        dir.new) }
+//
+// Kept: a copy of the table, since with `&OPCODES` a warm step takes 1.06 of its time.
+#[tactic(auto, unfolding(instructions::specs::Board::opcode_table))]
+pub fn run(r: &mut [u64; 32], q: Special, buffers: &mut Buffers, n: u64) -> Ran
+    requires in_bounds { (128 ≤ length buffers.old.mem.now) × (length buffers.old.dir.now ≤ 64)
+        × (n ≤ 10000) }
+    requires fit { Fit (memory_in (drk_held q) buffers.old) }
+    ensures same { SameBuffers buffers.old buffers.new }
+    ensures runs { Runs n (machine_on r.old q buffers.old) (fault_in result.fault) result.steps
+        (counts_in result.counts) (machine_on r.new result.special buffers.new) }
 {
     let t = OPCODES;
-    steps(&t, r, q, mem, macs, cache, dir, n)
+    steps(&t, r, q, buffers, n)
 }

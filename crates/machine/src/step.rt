@@ -1,61 +1,48 @@
 // One instruction: fetch, decode, data access, effect.
 ghost use Rattle.std.specs.Prelude.{◌≡◌, ◌≤◌, length};
 ghost use Rattle.instructions.specs.Board.{opcode_table};
-ghost use Rattle.cache.specs.Lent.{lent, counts_in, Fit};
-ghost use Rattle.machine.specs.Steps.{Steps, machine_of};
+ghost use Rattle.answers.specs.Numbers.{fault_in};
+ghost use Rattle.registers.specs.Map.{drk_held};
+ghost use Rattle.cache.specs.Lent.{counts_in, Fit};
+ghost use Rattle.cache.specs.Held.{SameBuffers, memory_in};
+ghost use Rattle.machine.specs.Steps.{Steps, machine_on};
 
 use crate::phase;
+use answers::faults::Fault;
+use cache::buffers::Buffers;
 use cache::slots;
 use cache::slots::Counts;
+use registers::decide::Wish;
 use registers::record::Special;
 use registers::{decide, faults, finish};
 
-// The fault of a step, 0 for none, the registers after it but R0 to R31, and what was counted.
+// The fault of a step, where it has one, the registers after it but R0 to R31, and what was counted.
 #[derive(Clone, Copy)]
 pub struct Stepped {
-    pub fault: u64,
+    pub fault: Option<Fault>,
     pub special: Special,
     pub counts: Counts,
 }
 
-pub fn step(
-    t: &[u8; 64],
-    r: &mut [u64; 32],
-    q: Special,
-    mem: &mut [u8],
-    macs: &mut [u8],
-    cache: &mut [u8],
-    dir: &mut [u32],
-) -> Stepped
+pub fn step(t: &[u8; 64], r: &mut [u64; 32], q: Special, buffers: &mut Buffers) -> Stepped
     requires t_value { t.now ≡ opcode_table }
-    requires in_bounds { 128 ≤ length mem.old }
-    requires fit { Fit (lent q.drkhi q.drklo mem.old macs.old cache.old dir.old) }
-    ensures { Steps (machine_of r.old q mem.old macs.old cache.old
-        dir.old) result.fault (counts_in result.counts) (machine_of r.new result.special mem.new
-        macs.new cache.new dir.new) }
+    requires in_bounds { 128 ≤ length buffers.old.mem.now }
+    requires fit { Fit (memory_in (drk_held q) buffers.old) }
+    ensures same { SameBuffers buffers.old buffers.new }
+    ensures steps { Steps (machine_on r.old q buffers.old) (fault_in result.fault)
+        (counts_in result.counts) (machine_on r.new result.special buffers.new) }
 {
-    let m = mem.len() as u64;
-    let hi = q.drkhi;
-    let lo = q.drklo;
-    let f = faults::fetch_fault(r, q, m);
-    let got = phase::fetch(hi, lo, mem, macs, cache, dir, f, q.mode, q.pc);
-    let want = decide::decide(t, r, q, m, f, got.failed, got.number);
-    let data = phase::access(hi, lo, mem, macs, cache, dir, want);
-    let k = slots::add(got.counts, data.counts);
-    let end = finish::finish(
-        r,
-        q,
-        m,
-        want.fault,
-        got.failed,
-        got.number,
-        data.failed,
-        data.number,
-    );
-    let s = end.special;
+    let m = buffers.mem.len() as u64;
+    let drk = q.drk();
+    let fetch = faults::fetch_fault(r, q, m);
+    let got = phase::fetch(drk, buffers, fetch.err(), q.mode, q.pc);
+    let wish = decide::decide(t, r, q, m, fetch, got.number);
+    let data = phase::access(drk, buffers, wish.unwrap_or(Wish::Nothing));
+    let counts = slots::add(got.counts, data.counts);
+    let end = finish::finish(r, q, m, wish.err(), got.number, data.number);
     Stepped {
         fault: end.fault,
-        special: s,
-        counts: k,
+        special: end.special,
+        counts,
     }
 }

@@ -2,23 +2,18 @@
 ghost use Rattle.board_file.specs.Boards.{Within};
 
 use board_file::board::Board;
+use meter_pages::book::Run;
 use meter_pages::rows;
 use sheets::running::Sheets;
 use std::io;
 
 // A cache size in the table or the CSV.
-fn size(to: &impl Print, slots: usize, both: Sheets, csv: bool) -> io::Result<()> {
-    let cold = both.cold;
-    let warm = both.warm;
+fn size(to: &impl Print, slots: usize, s: &Sheets, csv: bool) -> io::Result<()> {
     if csv {
-        rows::row(to, 1, slots, cold)?;
-        return rows::row(to, 2, slots, warm);
+        rows::row(to, Run::of(&s.cold), slots, &s.cold)?;
+        return rows::row(to, Run::of(&s.warm), slots, &s.warm);
     }
-    let x = cold.report;
-    let y = warm.report;
-    let c = x.counts;
-    let w = y.counts;
-    rows::table_line(to, slots, c, w)
+    rows::table_line(to, slots, s.cold.report.counts, s.warm.report.counts)
 }
 
 // Cold beside warm for caches of 1, 2, 4 and so on to 64 slots.
@@ -30,10 +25,8 @@ pub(crate) fn all(to: &impl Print, text: &[u8], b: Board, csv: bool) -> io::Resu
     } else {
         rows::table_head(to)?;
     }
-    let mut slots: usize = 1;
-    while slots < 65 {
-        size(to, slots, meter_runs::both(text, b, slots), csv)?;
-        slots *= 2;
+    for slots in [1, 2, 4, 8, 16, 32, 64] {
+        size(to, slots, &meter_runs::both(text, b, slots), csv)?;
     }
     Ok(())
 }

@@ -4,143 +4,128 @@
 ghost use Rattle.std.specs.Prelude.{◌≤◌, IfSome};
 
 use board_numbers::number;
+use board_numbers::number::Number;
 use std::env::FillError;
+use std::error::Error;
+use std::fmt;
 use std::rt::Env;
 
-// The file's place among the arguments (0: none yet), what is asked for, the line to drop, and whether an argument is
-// wrong.
-#[derive(Clone, Copy)]
+// What is asked for of a board's file, and the line to drop before a third run, where one is.
+#[derive(Clone, Copy, Debug, Default, PartialEq, Eq)]
 pub struct Options {
-    pub path: usize,
     pub csv: bool,
     pub sizes: bool,
     pub script: bool,
     pub keep: bool,
-    pub drop: bool,
-    pub line: u64,
-    pub expects: bool,
-    pub wrong: bool,
+    pub drop: Option<u64>,
 }
 
-// Nothing asked for.
-fn none() -> Options {
-    Options {
-        path: 0,
-        csv: false,
-        sizes: false,
-        script: false,
-        keep: false,
-        drop: false,
-        line: 0,
-        expects: false,
-        wrong: false,
+// The file's place among the arguments, and what is asked for of it.
+#[derive(Clone, Copy, Debug, PartialEq, Eq)]
+pub struct Command {
+    pub path: usize,
+    pub options: Options,
+}
+
+// The arguments are not understood.
+#[derive(Clone, Copy, Debug, PartialEq, Eq)]
+pub struct Misused;
+
+impl fmt::Display for Misused {
+    fn fmt<W: fmt::Write>(&self, f: &mut fmt::Formatter<W>) -> fmt::Result {
+        f.write_str("the arguments are not understood")
     }
 }
 
-// With an argument that is wrong.
-fn refused(o: Options) -> Options {
-    let mut q = o;
-    q.wrong = true;
-    q
+impl Error for Misused {}
+
+// What the arguments read so far ask for, and whether the next one is the line to drop.
+#[derive(Clone, Copy, Default)]
+struct Asked {
+    path: Option<usize>,
+    options: Options,
+    expects_line: bool,
 }
 
-// With the line to drop.
-fn with_line(o: Options, word: &[u8]) -> Options {
-    let n = number::read(word);
-    let mut q = o;
-    q.expects = false;
-    q.line = n.value;
-    q.wrong = n.error != 0 || n.is_register;
-    q
+impl Asked {
+    // Takes the argument at a place.
+    fn take(&mut self, word: &[u8], place: usize) -> Result<(), Misused> {
+        if self.expects_line {
+            return self.take_line(word);
+        }
+        match word.first() {
+            None => Err(Misused),
+            Some(b'-') => self.take_switch(word),
+            Some(_) => self.take_path(place),
+        }
+    }
+
+    // Takes the line to drop.
+    fn take_line(&mut self, word: &[u8]) -> Result<(), Misused> {
+        let Ok(Number::Plain(line)) = number::read(word) else {
+            return Err(Misused);
+        };
+        self.options.drop = Some(line);
+        self.expects_line = false;
+        Ok(())
+    }
+
+    // Takes an argument that begins with a minus sign.
+    fn take_switch(&mut self, word: &[u8]) -> Result<(), Misused> {
+        match word {
+            b"--csv" => self.options.csv = true,
+            b"--sizes" => self.options.sizes = true,
+            b"--script" => self.options.script = true,
+            b"--keep" => self.options.keep = true,
+            b"--drop" => self.expects_line = true,
+            _ => return Err(Misused),
+        }
+        Ok(())
+    }
+
+    // Takes the place of the file's name, of which there is one.
+    fn take_path(&mut self, place: usize) -> Result<(), Misused> {
+        if self.path.is_some() {
+            return Err(Misused);
+        }
+        self.path = Some(place);
+        Ok(())
+    }
+
+    // What all arguments ask for; a file is needed, and a line behind --drop.
+    fn ended(self) -> Result<Command, Misused> {
+        match self.path {
+            Some(path) if !self.expects_line => Ok(Command {
+                path,
+                options: self.options,
+            }),
+            _ => Err(Misused),
+        }
+    }
 }
 
-// With an argument that begins with a minus sign.
-fn with_switch(o: Options, word: &[u8]) -> Options {
-    let mut q = o;
-    if word == b"--csv".as_slice() {
-        q.csv = true;
-        return q;
-    }
-    if word == b"--sizes".as_slice() {
-        q.sizes = true;
-        return q;
-    }
-    if word == b"--script".as_slice() {
-        q.script = true;
-        return q;
-    }
-    if word == b"--keep".as_slice() {
-        q.keep = true;
-        return q;
-    }
-    if word == b"--drop".as_slice() {
-        q.drop = true;
-        q.expects = true;
-        return q;
-    }
-    refused(o)
-}
-
-// With the file's name, which stands at place i.
-fn with_path(o: Options, i: usize) -> Options {
-    if o.path != 0 {
-        return refused(o);
-    }
-    let mut q = o;
-    q.path = i;
-    q
-}
-
-// With argument i.
-fn with_word(o: Options, word: &[u8], i: usize) -> Options {
-    if word.len() == 0 {
-        return refused(o);
-    }
-    if o.expects {
-        return with_line(o, word);
-    }
-    if word[0] == b'-' {
-        return with_switch(o, word);
-    }
-    with_path(o, i)
-}
-
-// The length of argument i, which the system puts at the start of a buffer: 0 where it is longer than that, and none
-// where there is no such argument.
-fn argument(env: &impl Env, i: usize, word: &mut [u8; 4096]) -> Option<usize>
+// The length of the argument at a place, which the system puts at the start of a buffer: 0 where it is longer than
+// that, and none where there is no such argument.
+fn argument(env: &impl Env, place: usize, word: &mut [u8; 4096]) -> Option<usize>
     ensures { IfSome result (λ n. n ≤ 4096) }
 {
-    match env.arg(i, word) {
+    match env.arg(place, word) {
         Ok(n) => Some(n),
         Err(FillError::TooLong) => Some(0),
         Err(FillError::NotPresent) => None,
     }
 }
 
-// With argument i, as the system hands it over; none where there is no such argument.
-fn with_argument(env: &impl Env, o: Options, i: usize) -> Option<Options> {
+// What all arguments ask for, the program's name aside.
+pub fn read(env: &impl Env) -> Result<Command, Misused> {
+    let mut asked = Asked::default();
+    // Kept: a buffer and a count; std's env::args allocates, and the meter has fixed memory.
     let mut word = [0u8; 4096];
-    let n = argument(env, i, &mut word)?;
-    Some(with_word(o, &word[..n], i))
-}
-
-// What all arguments ask for; a file is needed, and a line behind --drop.
-pub fn read(env: &impl Env) -> Options {
-    let mut o = none();
-    for i in 1..usize::MAX {
-        match with_argument(env, o, i) {
-            Some(more) => o = more,
-            None => break,
-        }
-        if o.wrong {
-            return o;
-        }
+    for place in 1..usize::MAX {
+        let Some(n) = argument(env, place, &mut word) else {
+            break;
+        };
+        asked.take(&word[..n], place)?;
     }
-    if o.path == 0 {
-        return refused(o);
-    }
-    if o.expects {
-        return refused(o);
-    }
-    o
+    asked.ended()
 }

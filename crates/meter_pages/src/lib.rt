@@ -2,6 +2,5 @@
 #![tactic(auto)]
 
 pub mod book;
-pub mod out;
 pub mod printing;
 pub mod rows;

@@ -1,65 +1,62 @@
 // A board's runs, each on memory laid anew from its file.
 #![tactic(auto)]
 
+pub mod room;
+
 ghost use Rattle.std.specs.Prelude.{◌≤◌};
 ghost use Rattle.board_file.specs.Boards.{Within};
 
 use board_file::board::Board;
+use board_numbers::errors::Misread;
+use cache::buffers::Buffers;
 use host::answer::Report;
 use host::dropping;
 use laying::lines;
-use laying::lines::Laid;
 use registers::record;
-use registers::record::Processor;
+use registers::record::{Processor, Special};
+use room::Room;
 use sheets::running;
 use sheets::running::Sheets;
 use sheets::sheet::Sheet;
 
-// A run with the cache kept, behind a line dropped or not.
+// A run with the cache kept, and what dropping a line before it reported.
 #[derive(Clone, Copy)]
 pub struct Later {
-    pub dropped: Report,
+    pub dropped: Option<Report>,
     pub sheet: Sheet,
 }
 
 // The registers, the pc, the DRK and the SRH that the file says; everything else zero.
 pub fn start(b: Board) -> Processor {
-    let r = b.registers;
-    let srh = b.srh;
-    let z = record::zero();
-    let mut special = z.special;
-    special.pc = b.pc;
-    special.drkhi = b.drkhi;
-    special.drklo = b.drklo;
-    special.srh0 = srh[0];
-    special.srh1 = srh[1];
-    special.srh2 = srh[2];
-    special.srh3 = srh[3];
-    Processor { r, special }
+    let [srh0, srh1, srh2, srh3] = b.srh;
+    Processor {
+        r: b.registers,
+        special: Special {
+            pc: b.pc,
+            drkhi: b.drk.high,
+            drklo: b.drk.low,
+            srh0,
+            srh1,
+            srh2,
+            srh3,
+            ..record::zero().special
+        },
+    }
 }
 
-// The error of laying a board's lines, or none.
-pub fn laid(text: &[u8], b: Board) -> Laid
+// The error of laying a board's lines, where there is one.
+pub fn laid(text: &[u8], b: Board) -> Result<(), Misread>
     requires { Within b }
 {
-    let mut mem = [0u8; 65536];
-    let mut macs = [0u8; 16384];
-    let m = b.memory;
-    let k = m / 4;
-    lines::load(text, b.drkhi, b.drklo, &mut mem[0..m], &mut macs[0..k])
+    let mut room = Room::empty();
+    let Buffers { mem, macs, .. } = room.lend(&b, 0);
+    lines::load(text, b.drk, mem, macs)
 }
 
-// The cold and the warm sheet of a board that is laid into lent buffers.
-fn both_on(
-    text: &[u8],
-    b: Board,
-    mem: &mut [u8],
-    macs: &mut [u8],
-    cache: &mut [u8],
-    dir: &mut [u32],
-) -> Sheets {
-    lines::load(text, b.drkhi, b.drklo, mem, macs);
-    running::both(start(b), mem, macs, cache, dir, b.steps)
+// The cold and the warm sheet of a board that is laid into lent buffers, as far as its lines can be.
+fn both_on(text: &[u8], b: Board, lent: &mut Buffers) -> Sheets {
+    let _ = lines::load(text, b.drk, lent.mem, lent.macs);
+    running::both(start(b), lent, b.steps)
 }
 
 // The cold and the warm sheet of a board with so many slots.
@@ -67,76 +64,31 @@ pub fn both(text: &[u8], b: Board, slots: usize) -> Sheets
     requires within { Within b }
     requires slots_bound { slots ≤ 64 }
 {
-    let mut mem = [0u8; 65536];
-    let mut macs = [0u8; 16384];
-    let mut cache = [0u8; 4096];
-    let mut dir = [0u32; 64];
-    let m = b.memory;
-    let k = m / 4;
-    let d = slots * 64;
-    both_on(
-        text,
-        b,
-        &mut mem[0..m],
-        &mut macs[0..k],
-        &mut cache[0..d],
-        &mut dir[0..slots],
-    )
+    let mut room = Room::empty();
+    let mut lent = room.lend(&b, slots);
+    both_on(text, b, &mut lent)
 }
 
-// One run more from a record, behind a line dropped.
-fn dropped_on(
-    b: Board,
-    left: Processor,
-    line: u64,
-    mem: &mut [u8],
-    macs: &mut [u8],
-    cache: &mut [u8],
-    dir: &mut [u32],
-) -> Later {
-    let d = dropping::evict_line(left, mem, macs, cache, dir, line);
-    let dropped = d.report;
-    let p = running::again(start(b), left);
-    let y = running::once_more(p, mem, macs, cache, dir, b.steps);
-    let sheet = y.sheet;
-    Later { dropped, sheet }
+// What dropping a line reports.
+fn drop_line(left: Processor, line: u64, lent: &mut Buffers) -> Report {
+    dropping::evict_line(left, lent, line).report
 }
 
-// A third run behind the cold and the warm one.
-fn third_on(
-    text: &[u8],
-    b: Board,
-    line: u64,
-    mem: &mut [u8],
-    macs: &mut [u8],
-    cache: &mut [u8],
-    dir: &mut [u32],
-) -> Later {
-    let x = both_on(text, b, mem, macs, cache, dir);
-    let left = x.processor;
-    dropped_on(b, left, line, mem, macs, cache, dir)
+// One run more from a record, with the cache as it is.
+fn once_more(b: Board, left: Processor, lent: &mut Buffers) -> Sheet {
+    let again = running::again(start(b), left);
+    running::once_more(again, lent, b.steps).sheet
 }
 
-// The sheet of a third run, with the cache as the warm run left it but for a line that was dropped; a line past memory
-// drops nothing.
-pub fn third(text: &[u8], b: Board, line: u64) -> Later
+// The sheet of a third run, with the cache as the warm run left it but for a line that is dropped where that is asked
+// for; a line past memory drops nothing.
+pub fn third(text: &[u8], b: Board, line: Option<u64>) -> Later
     requires { Within b }
 {
-    let mut mem = [0u8; 65536];
-    let mut macs = [0u8; 16384];
-    let mut cache = [0u8; 4096];
-    let mut dir = [0u32; 64];
-    let m = b.memory;
-    let k = m / 4;
-    let c = b.slots;
-    let d = c * 64;
-    third_on(
-        text,
-        b,
-        line,
-        &mut mem[0..m],
-        &mut macs[0..k],
-        &mut cache[0..d],
-        &mut dir[0..c],
-    )
+    let mut room = Room::empty();
+    let mut lent = room.lend(&b, b.slots);
+    let left = both_on(text, b, &mut lent).processor;
+    let dropped = line.map(|line| drop_line(left, line, &mut lent));
+    let sheet = once_more(b, left, &mut lent);
+    Later { dropped, sheet }
 }

@@ -1,35 +1,30 @@
--- The effect of an instruction, by its class: one that writes a value, one that changes pc alone, and the others.
-use Rattle.std.proofs.Common.{◌≡◌, ℕ, ◌<◌, Bool, true, false, ◌||◌, eqb, ltb, List, [], ◌∷◌, refl, lt-ltb}
+-- The effect of an instruction that writes a value, and what a change of one register makes of the record.
+use Rattle.std.proofs.Common.{◌≡◌, ℕ, Bool, true, false, ◌||◌, eqb, List, [], ◌∷◌, refl, ◌∙◌}
 use Rattle.model.specs.Cipher.{Cipher}
 use Rattle.instructions.specs.Rules.{one_of}
 use Rattle.instructions.specs.Board.{Board}
-use Rattle.instructions.specs.Record.{Processor, with_reg, with_regs, with_pc, with_mode}
+use Rattle.instructions.specs.Record.{Processor, with_reg, with_regs, with_pc}
 use Rattle.instructions.specs.Fields.{opcode, field_a}
 use Rattle.instructions.specs.Operations.{Ra, Rb, value_opcodes, has_value, value, behind, next_pc, modes, next_mode}
 use Rattle.instructions.specs.Operations.{taken, effects, effect, executed}
 use Rattle.instructions.proofs.RuleLaws.{outside, eqb-outside, pick-outside}
-use Rattle.registers.specs.Effects.{next_key}
+use Rattle.registers.specs.Map.{processor_of}
+use Rattle.registers.specs.Effects.{Holds, Changes, next_key}
+use Rattle.registers.specs.declared.record.Special.{Special}
 
 or_self : (b : Bool) → (b || b) ≡ b
 or_self true = refl
 or_self false = refl
 
--- the opcodes that write a value, and those below 12
+-- the opcodes that write a value
 abbrev is_value : ℕ → Bool
 is_value k = one_of k value_opcodes
 
-abbrev is_low : ℕ → Bool
-is_low k = ltb k 12
-
--- either keeps the DRK
+-- they keep the DRK
 module _ (key : List ℕ) (p : Processor) (w : ℕ) where
   pub next_key-value : has_value w ≡ true → key ≡ next_key key p w
   unfolding has_value next_key
   next_key-value h = rw (eqb-outside is_value (opcode w) 32 h refl)
-
-  pub next_key-low : opcode w < 12 → key ≡ next_key key p w
-  unfolding next_key
-  next_key-low l = rw (eqb-outside is_low (opcode w) 32 (lt-ltb (opcode w) 12 l) refl)
 
 module _ (B : Board) (c : Cipher) (key : List ℕ) (p : Processor) (w loaded : ℕ) where
   abbrev op : ℕ
@@ -61,18 +56,7 @@ module _ (B : Board) (c : Cipher) (key : List ℕ) (p : Processor) (w loaded : �
         b,
       )
 
-  -- any other below 12 changes pc alone
-  pub executed-low : (pc : ℕ) → op < 12 → has_value w ≡ false → pc ≡ next_pc B p w
-      → with_pc pc p ≡ executed B c key p w loaded
-  unfolding executed
-  executed-low pc l h b =
-      let low : is_low op ≡ true = lt-ltb op 12 l in
-      rw (h, ← b, next_mode-outside is_low low refl, effect-outside is_low low refl)
-
-  -- the others
-  pub executed_other : (pc m : ℕ) (q : Processor) → has_value w ≡ false → pc ≡ next_pc B p w
-      → m ≡ next_mode p w
-      → q ≡ effect c key p w
-      → with_regs p.regs (with_pc pc (with_mode m q)) ≡ executed B c key p w loaded
-  unfolding executed
-  executed_other pc m q h a b e = rw (h, a, b, e)
+-- what changed one register, where the meaning's rule changes it so
+pub changed : {f : Processor → Processor} {key key' regs : List ℕ} {p : Processor} {q x : Special} → Changes f key q x
+    → f (processor_of regs q) ≡ p → key ≡ key' → Holds p key' regs x
+changed {regs = regs} C r s = record { record' = C.record' regs ∙ r; key' = C.key' ∙ s }

@@ -3,6 +3,7 @@
 use Rattle.std.specs.Prelude.{ℕ, List, [], ◌∷◌}
 use Rattle.instructions.specs.Record.{Processor}
 use Rattle.sealing.specs.Lines.{drk_of}
+use Rattle.sealing.specs.declared.Drk.{Drk}
 use Rattle.registers.specs.declared.record.Special.{Special}
 
 -- CEM_Buffer, word 0 first
@@ -28,6 +29,10 @@ processor_of regs q =
             saved = record { hash = q.hash; address = q.address; pid = q.savedpid; cid = q.savedcid };
           };
     }
+
+-- the DRK, as its two words
+abbrev pub drk_held : Special → Drk
+drk_held q = record { high = q.drkhi; low = q.drklo }
 
 -- the DRK, which is the memory's key
 abbrev pub key_of : Special → List ℕ

@@ -1,31 +1,37 @@
--- What the plain request of a step stands for.
-use Rattle.std.specs.Prelude.{◌≡◌, ℕ, ◌≤◌, List, ◌==◌}
-use Rattle.lists.specs.If.{if}
-use Rattle.model.specs.Tags.{tag_named}
+-- What the code's wish, and its answer, stand for.
+use Rattle.std.specs.Prelude.{◌≡◌, ℕ, List, true, false, Option, Some, None, Result, Ok, Err}
 use Rattle.model.specs.Cipher.{Cipher}
+use Rattle.directory.specs.TagIn.{tag_in}
 use Rattle.instructions.specs.Board.{Board}
 use Rattle.instructions.specs.Record.{Processor}
-use Rattle.instructions.specs.Wishes.{Wish, idle, word, new_key, Got}
-use Rattle.instructions.specs.Step.{known_fault, wish_for, data_wish}
-use Rattle.sealing.specs.Lines.{drk_of}
-use Rattle.registers.specs.declared.decide.Wanted.{Wanted}
+use Rattle.instructions.specs.Wishes as meaning
+use Rattle.instructions.specs.Wishes.{Got, idle, word, new_key}
+use Rattle.instructions.specs.Step.{known_fault, data_wish}
+use Rattle.answers.specs.declared.faults.Fault.{Fault}
+use Rattle.answers.specs.Numbers.{fault_of}
+use Rattle.sealing.specs.Lines.{drk_in}
+use Rattle.registers.specs.declared.decide.Wish.{Wish}
+use Rattle.registers.specs.declared.decide.Wish.TheVariants.{Nothing, Word, NewKey}
 
--- the wish that a plain request stands for: kind 1 is a word, kind 2 another key, any other nothing
-unfoldable pub wish_of : Wanted → Wish
-wish_of q =
-    if (q.kind == 1) (word (tag_named q.tag) q.address 8 q.write q.value)
-    (if (q.kind == 2) (new_key (drk_of q.value q.other)) idle)
+-- the wish of the meaning: nothing, a word that is read, a word that is written, another key
+abbrev pub wish_in : Wish → meaning.Wish
+wish_in Nothing = idle
+wish_in (Word tag address None) = word (tag_in tag) address 8 false 0
+wish_in (Word tag address (Some value)) = word (tag_in tag) address 8 true value
+wish_in (NewKey drk) = new_key (drk_in drk)
 
--- the request has a fault and stands for a wish
-pub record Asks (fault' : ℕ) (wish' : Wish) (q : Wanted) : Type 0 where
-  pub fault : q.fault ≡ fault'
-  pub wish : wish_of q ≡ wish'
-  pub tag : q.tag ≤ 2
+-- what came of a wish: a number, or none where the line's check failed
+abbrev pub got_in : Option ℕ → Got
+got_in None = record { failed = true; number = 0 }
+got_in (Some n) = record { failed = false; number = n }
 
--- the request of an instruction with nothing amiss
-abbrev pub Granted : Board → Cipher → List ℕ → Processor → ℕ → Wanted → Type 0
-Granted B c key p w q = Asks 0 (wish_for B c key p w) q
+-- the wish of a decision: nothing where there is a fault
+abbrev pub wish_of : Result Wish Fault → meaning.Wish
+wish_of (Ok wish) = wish_in wish
+wish_of (Err fault) = idle
 
--- the request is the data access of the instruction that was fetched
-abbrev pub Decides : Board → Cipher → ℕ → List ℕ → Processor → Got → Wanted → Type 0
-Decides B c M key p got q = Asks (known_fault B M p got) (data_wish B c key M p got) q
+-- the decision is the fault that is known, or the data access of the instruction that was fetched
+pub record Decides (B : Board) (c : Cipher) (M : ℕ) (key : List ℕ) (p : Processor) (got : Got)
+    (decision : Result Wish Fault) : Type 0 where
+  pub fault : fault_of decision ≡ known_fault B M p got
+  pub wish : wish_of decision ≡ data_wish B c key M p got

@@ -1,120 +1,98 @@
 // What a step wants of the memory once its instruction was fetched.
-ghost use Rattle.std.specs.Prelude.{◌≡◌, ◌≤◌};
-ghost use Rattle.model.specs.Tags.{tag_named};
+ghost use Rattle.std.specs.Prelude.{◌≡◌, ◌≤◌, true, false};
+ghost use Rattle.directory.specs.TagIn.{tag_in};
 ghost use Rattle.instructions.specs.Board.{document_board, opcode_table};
 ghost use Rattle.instructions.specs.Faults.{fetch_fault};
 ghost use Rattle.instructions.specs.Operations as o;
-ghost use Rattle.instructions.specs.Operations.{two_words};
-ghost use Rattle.instructions.specs.Wishes.{idle, word, new_key};
+ghost use Rattle.instructions.specs.Step.{wish_for};
+ghost use Rattle.instructions.specs.Wishes.{word};
+ghost use Rattle.answers.specs.Numbers.{fault_of};
 ghost use Rattle.ciphers.specs.Cipher.{aes_cipher};
 ghost use Rattle.registers.specs.Map.{processor_of, key_of};
-ghost use Rattle.registers.specs.Wanted.{Asks, Decides, Granted};
+ghost use Rattle.registers.specs.Wanted.{wish_in, got_in, Decides};
 
 use crate::record::Special;
 use crate::{faults, fields};
+use answers::faults::Fault;
+use directory::tag::Tag;
+use opcodes::opcode::Opcode;
+use sealing::Drk;
 
-// The fault that is known, and what is wanted: kind 0 nothing, 1 a word, 2 another key.
-#[derive(Clone, Copy)]
-pub struct Wanted {
-    pub fault: u64,
-    pub kind: u32,
-    pub tag: u32,
-    pub address: u64,
-    pub write: bool,
-    pub value: u64,
-    pub other: u64,
+// What a step wishes of the memory: nothing; under a tag, the word at an address, and where one is given another is
+// written there; another key.
+#[derive(Clone, Copy, Debug, PartialEq, Eq)]
+pub enum Wish {
+    Nothing,
+    Word {
+        tag: Tag,
+        address: u64,
+        store: Option<u64>,
+    },
+    NewKey(Drk),
 }
 
-// Nothing is wanted.
-fn nothing(fault: u64) -> Wanted
-    ensures { Asks fault idle result }
+// The word at an address under a tag.
+#[tactic(auto, unfolding(instructions::specs::Board::document_board))]
+fn load(tag: Tag, address: u64) -> Wish
+    ensures { wish_in result ≡ word (tag_in tag) address document_board.word_bytes false 0 }
 {
-    Wanted {
-        fault,
-        kind: 0,
-        tag: 0,
-        address: 0,
-        write: false,
-        value: 0,
-        other: 0,
-    }
-}
-
-// A word at an address under a tag is wanted; where the test says so, the value is written there.
-fn word(tag: u32, address: u64, write: bool, value: u64) -> Wanted
-    requires { tag ≤ 2 }
-    ensures { Asks 0 (word (tag_named tag) address document_board.word_bytes write value) result }
-{
-    Wanted {
-        fault: 0,
-        kind: 1,
+    Wish::Word {
         tag,
         address,
-        write,
-        value,
-        other: 0,
+        store: None,
     }
 }
 
-// Another key is wanted, its high word first.
-fn new_key(hi: u64, lo: u64) -> Wanted
-    ensures { Asks 0 (new_key (two_words hi lo)) result }
+// The same, with another word written there.
+#[tactic(auto, unfolding(instructions::specs::Board::document_board))]
+fn store(tag: Tag, address: u64, value: u64) -> Wish
+    ensures { wish_in result ≡ word (tag_in tag) address document_board.word_bytes true value }
 {
-    Wanted {
-        fault: 0,
-        kind: 2,
-        tag: 0,
-        address: 0,
-        write: false,
-        value: hi,
-        other: lo,
+    Wish::Word {
+        tag,
+        address,
+        store: Some(value),
     }
 }
 
-// What an instruction with nothing amiss wants.
-fn want(r: &[u64; 32], q: Special, w: u64, a: u64) -> Wanted
+// What an instruction with nothing amiss wishes.
+#[tactic(auto, unfolding(instructions::specs::Step::wish_for, instructions::specs::Operations::Ra, instructions::specs::Operations::Rb, instructions::specs::Record::reg, sealing::specs::Lines::drk_of))]
+fn want(r: &[u64; 32], q: Special, w: u64, a: u64) -> Wish
     requires { a ≡ o.address document_board (processor_of r.now q) w }
-    ensures { Granted document_board aes_cipher (key_of q) (processor_of r.now q) w result }
+    ensures { wish_in result ≡ wish_for document_board aes_cipher (key_of q) (processor_of r.now q) w }
 {
-    let op = fields::opcode(w);
     let x = fields::word_a(r, w);
     let y = fields::word_b(r, w);
-    match op {
-        10 => word(0, a, false, 0),
-        11 => word(0, a, true, x),
-        32 => new_key(x, y),
-        41 => word(2, a, false, 0),
-        42 => word(2, a, true, x),
-        _ => nothing(0),
+    match fields::opcode(w) {
+        Some(Opcode::Load) => load(Tag::Ordinary, a),
+        Some(Opcode::Store) => store(Tag::Ordinary, a, x),
+        Some(Opcode::DrkSet) => Wish::NewKey(Drk { high: x, low: y }),
+        Some(Opcode::SecureLoad) => load(Tag::SecureData, a),
+        Some(Opcode::SecureStore) => store(Tag::SecureData, a, x),
+        _ => Wish::Nothing,
     }
 }
 
-// The fault that is known once the fetch has answered, and the data access.
+// The data access, or the fault that is known once the fetch has answered: the word that was fetched is none where its
+// line's check failed.
+#[tactic(auto, using(crate::proofs::Decoding::fault_number_some), unfolding(instructions::specs::Step::known_fault, instructions::specs::Step::data_wish))]
 pub fn decide(
     t: &[u8; 64],
     r: &[u64; 32],
     q: Special,
     m: u64,
-    fault: u64,
-    failed: bool,
-    w: u64,
-) -> Wanted
+    fetch: Result<(), Fault>,
+    fetched: Option<u64>,
+) -> Result<Wish, Fault>
     requires t_value { t.now ≡ opcode_table }
-    requires fault_value { fault ≡ fetch_fault m (processor_of r.now q) }
+    requires fetch_value { fault_of fetch ≡ fetch_fault m (processor_of r.now q) }
     requires le_m { 8 ≤ m }
-    ensures { Decides document_board aes_cipher m (key_of q) (processor_of r.now q)
-        (record { failed = failed; number = w }) result }
+    ensures { Decides document_board aes_cipher m (key_of q) (processor_of r.now q) (got_in fetched)
+        result }
 {
-    if fault != 0 {
-        return nothing(fault);
-    }
-    if failed {
-        return nothing(4);
-    }
+    fetch?;
+    let w = fetched.ok_or(Fault::CodeLineWrong)?;
     let a = faults::address(r, q, w);
-    let f = faults::decode_fault(t, r, q, m, w, a);
-    if f != 0 {
-        return nothing(f);
-    }
-    want(r, q, w, a)
+    faults::decode_fault(t, r, q, m, w, a)?;
+    Ok(want(r, q, w, a))
 }

@@ -1,37 +1,29 @@
-// The fields of an instruction word, the registers that they name, tests, and sums of words.
-ghost use Rattle.std.specs.Prelude.{◌≡◌, ◌+◌, ◌-◌, ◌*◌, ◌%◌, ◌<◌, ◌&&◌, ◌||◌, slice_index};
+// The fields of an instruction word, the instruction and the registers that they name, and sums of words.
+ghost use Rattle.std.specs.Prelude.{◌≡◌, ◌+◌, ◌-◌, ◌*◌, ◌%◌, ◌<◌, slice_index};
 ghost use Rattle.std.specs.Int.Count.{count_leading_zeros};
 ghost use Rattle.instructions.specs.Board.{document_board, modulus};
 ghost use Rattle.instructions.specs.Fields as f;
+ghost use Rattle.opcodes.specs.Numbers.{opcode_named};
 
-// Both tests hold.
-pub fn both(a: bool, b: bool) -> bool
-    ensures { result ≡ a && b }
-{
-    if a {
-        return b;
-    }
-    false
-}
+use opcodes::opcode::Opcode;
 
-// One of the tests holds.
-pub fn either(a: bool, b: bool) -> bool
-    ensures { result ≡ a || b }
-{
-    if a {
-        return true;
-    }
-    b
-}
-
-// The opcode.
-pub fn opcode(w: u64) -> u64
+// The opcode's number.
+#[tactic(auto, unfolding(instructions::specs::Fields::opcode))]
+pub(crate) fn number(w: u64) -> u64
     ensures { (result ≡ f.opcode w) × (result < 64) }
 {
     w / 67108864 % 64
 }
 
+// The instruction, where its opcode has one.
+pub fn opcode(w: u64) -> Option<Opcode>
+    ensures { result ≡ opcode_named (f.opcode w) }
+{
+    Opcode::named(number(w))
+}
+
 // Register a.
+#[tactic(auto, unfolding(instructions::specs::Fields::field_a))]
 pub fn field_a(w: u64) -> usize
     ensures { (result ≡ f.field_a w) × (result < 32) }
 {
@@ -39,6 +31,8 @@ pub fn field_a(w: u64) -> usize
 }
 
 // The words in registers a, b and c.
+// Kept: three functions; the meaning names the fields one by one (field_a, field_b, field_c), and a const parameter would
+// put their places in the word at each caller.
 pub fn word_a(r: &[u64; 32], w: u64) -> u64
     ensures { result ≡ slice_index r.now (f.field_a w) }
 {
@@ -46,6 +40,7 @@ pub fn word_a(r: &[u64; 32], w: u64) -> u64
     r[n]
 }
 
+#[tactic(auto, unfolding(instructions::specs::Fields::field_b))]
 pub fn word_b(r: &[u64; 32], w: u64) -> u64
     ensures { result ≡ slice_index r.now (f.field_b w) }
 {
@@ -53,6 +48,7 @@ pub fn word_b(r: &[u64; 32], w: u64) -> u64
     r[n]
 }
 
+#[tactic(auto, unfolding(instructions::specs::Fields::field_c))]
 pub fn word_c(r: &[u64; 32], w: u64) -> u64
     ensures { result ≡ slice_index r.now (f.field_c w) }
 {
@@ -61,6 +57,7 @@ pub fn word_c(r: &[u64; 32], w: u64) -> u64
 }
 
 // sel.
+#[tactic(auto, unfolding(instructions::specs::Fields::sel))]
 pub fn sel(w: u64) -> u64
     ensures { result ≡ f.sel w }
 {
@@ -68,6 +65,7 @@ pub fn sel(w: u64) -> u64
 }
 
 // imm, signed, as a word.
+#[tactic(auto, unfolding(instructions::specs::Fields::imm, instructions::specs::Board::document_board, instructions::specs::Board::modulus))]
 pub fn imm(w: u64) -> u64
     ensures { result ≡ f.imm document_board w }
 {
@@ -79,21 +77,24 @@ pub fn imm(w: u64) -> u64
 }
 
 // x + y and x - y, as words.
+#[tactic(auto, unfolding(instructions::specs::Board::document_board, instructions::specs::Board::modulus))]
 pub fn plus(x: u64, y: u64) -> u64
     ensures { result ≡ (x + y) % modulus document_board }
 {
-    std::num::wrapping_add_u64(x, y)
+    x.wrapping_add(y)
 }
 
+#[tactic(auto, unfolding(instructions::specs::Board::document_board, instructions::specs::Board::modulus))]
 pub fn minus(x: u64, y: u64) -> u64
     ensures { result ≡ (x + (modulus document_board - y)) % modulus document_board }
 {
-    std::num::wrapping_sub_u64(x, y)
+    x.wrapping_sub(y)
 }
 
 // The leading zeros of a word.
+#[tactic(auto, unfolding(instructions::specs::Board::document_board))]
 pub fn leading(x: u64) -> u64
     ensures { result ≡ count_leading_zeros (8 * document_board.word_bytes) x }
 {
-    u64::leading_zeros(x) as u64
+    x.leading_zeros() as u64
 }

@@ -2,8 +2,11 @@
 ghost use Rattle.instructions.specs.Board.{document_board};
 ghost use Rattle.instructions.specs.Record as r;
 ghost use Rattle.sealing.specs.Lines.{drk_of};
-ghost use Rattle.registers.specs.Map.{processor_of, key_of};
+ghost use Rattle.std.specs.Prelude.{◌≡◌};
+ghost use Rattle.registers.specs.Map.{processor_of, key_of, drk_held};
 ghost use Rattle.registers.specs.Effects.{Holds};
+
+use sealing::Drk;
 
 // pc, EPC, cause, PID, CID, CEM_Mode, DRK_Lock, DRK, SRH, CEM_Buffer, Interrupt_Hash, Interrupt_Address, saved PID
 // and saved CID.
@@ -33,6 +36,18 @@ pub struct Special {
     pub lock: bool,
 }
 
+impl Special {
+    // The DRK.
+    pub fn drk(&self) -> Drk
+        ensures { result ≡ drk_held self.now }
+    {
+        Drk {
+            high: self.drkhi,
+            low: self.drklo,
+        }
+    }
+}
+
 // The whole record, with R0 to R31.
 #[repr(C)]
 #[derive(Clone, Copy)]
@@ -42,6 +57,7 @@ pub struct Processor {
 }
 
 // The record with everything zero.
+#[tactic(auto, unfolding(instructions::specs::Board::document_board, lists::specs::Bytes::zeros))]
 pub fn zero() -> Processor
     ensures { Holds (r.blank document_board) (drk_of 0 0) result.r result.special }
 {
@@ -91,6 +107,7 @@ pub fn keeping(was: Processor, p: Processor) -> Processor
 }
 
 // What reboot and power cut leave of a record.
+#[tactic(auto, unfolding(instructions::specs::Record::reset))]
 pub fn cleared(p: Processor) -> Processor
     ensures { Holds (r.reset document_board (processor_of p.r p.special))
         (key_of p.special) result.r result.special }

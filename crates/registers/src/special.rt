@@ -50,11 +50,12 @@ pub fn drk_lock(q: Special) -> Special
 }
 
 // drk.derive: words 1, 0 of CEM_Buffer are the MAC of a then b, words 3, 2 are 0.
+#[tactic(auto, unfolding(instructions::specs::Operations::derived, ciphers::specs::Cipher::aes_cipher))]
 pub fn drk_derive(q: Special, a: u64, b: u64) -> Special
     ensures { Changes (with_buffer (o.derived aes_cipher (key_of q) a b)) (key_of q) q result }
 {
     let mut x = q;
-    let m = sealing::derive(q.drkhi, q.drklo, a, b);
+    let m = q.drk().derive(a, b);
     x.word0 = texts::word_at(&m, 8);
     x.word1 = texts::word_at(&m, 0);
     x.word2 = 0;
@@ -91,26 +92,23 @@ pub fn gr_get(q: Special, w: u64, a: u64, b: u64) -> Special
     ensures { Changes (λ p. with_buffer (slice_set (slice_set p.cem.buffer (f.sel w + 1) a) (f.sel w) b) p)
         (key_of q) q result }
 {
-    let mut x = q;
-    let sel = fields::sel(w);
-    if sel == 0 {
-        x.word1 = a;
-        x.word0 = b;
-        return x;
+    match fields::sel(w) {
+        0 => Special {
+            word1: a,
+            word0: b,
+            ..q
+        },
+        1 => Special {
+            word2: a,
+            word1: b,
+            ..q
+        },
+        2 => Special {
+            word3: a,
+            word2: b,
+            ..q
+        },
+        3 => Special { word3: b, ..q },
+        _ => q,
     }
-    if sel == 1 {
-        x.word2 = a;
-        x.word1 = b;
-        return x;
-    }
-    if sel == 2 {
-        x.word3 = a;
-        x.word2 = b;
-        return x;
-    }
-    if sel == 3 {
-        x.word3 = b;
-        return x;
-    }
-    x
 }

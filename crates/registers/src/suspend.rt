@@ -5,14 +5,15 @@ ghost use Rattle.instructions.specs.Suspend as s;
 ghost use Rattle.ciphers.specs.Cipher.{aes_cipher};
 ghost use Rattle.registers.specs.Map.{processor_of, key_of};
 ghost use Rattle.registers.specs.Effects.{Holds, Returns};
+ghost use Rattle.answers.specs.Numbers.{fault_number, fault_in};
 
-use crate::fields;
 use crate::record::Special;
+use answers::faults::Fault;
 
-// The fault of a step, 0 for none, and the registers after it.
+// The fault of a step, where it has one, and the registers after it.
 #[derive(Clone, Copy)]
 pub struct Ended {
-    pub fault: u64,
+    pub fault: Option<Fault>,
     pub special: Special,
 }
 
@@ -24,6 +25,7 @@ fn replace(r: &mut [u64; 32], x: [u64; 32])
 }
 
 // A fault or an interrupt: an active thread is suspended; then EPC = pc, cause = number, pc = 64.
+#[tactic(auto, unfolding(instructions::specs::Suspend::entered, instructions::specs::Suspend::suspended, instructions::specs::Suspend::hash_of, instructions::specs::Suspend::hidden, instructions::specs::Record::active, instructions::specs::Board::document_board, ciphers::specs::Cipher::aes_cipher))]
 pub fn enter(r: &mut [u64; 32], q: Special, n: u64) -> Special
     ensures { Holds (s.entered document_board aes_cipher (key_of q) n (processor_of r.old q))
         (key_of q) r.new result }
@@ -36,8 +38,8 @@ pub fn enter(r: &mut [u64; 32], q: Special, n: u64) -> Special
         return x;
     }
     let old = *r;
-    let h = hiding::hash(q.drkhi, q.drklo, old);
-    let new = hiding::hide(q.drkhi, q.drklo, &h, old);
+    let h = hiding::hash(q.drk(), old);
+    let new = hiding::hide(q.drk(), &h, old);
     replace(r, new);
     x.hash = h;
     x.address = q.pc;
@@ -47,50 +49,54 @@ pub fn enter(r: &mut [u64; 32], q: Special, n: u64) -> Special
     x
 }
 
+// A fault is entered.
+pub fn faulted(r: &mut [u64; 32], q: Special, fault: Fault) -> Ended
+    ensures fault { fault_in result.fault ≡ fault_number fault }
+    ensures holds { Holds (s.entered document_board aes_cipher (key_of q) (fault_number fault)
+        (processor_of r.old q)) (key_of q) r.new result.special }
+{
+    Ended {
+        fault: Some(fault),
+        special: enter(r, q, fault.number()),
+    }
+}
+
 // Does rfi resume?
+#[tactic(auto, unfolding(instructions::specs::Suspend::resumes))]
 fn resuming(r: &[u64; 32], q: Special) -> bool
     ensures { result ≡ s.resumes (processor_of r.now q) }
 {
-    fields::both(
-        q.mode == 2,
-        fields::both(
-            q.epc == q.address,
-            fields::both(q.pid == q.savedpid, q.cid == q.savedcid),
-        ),
-    )
+    q.mode == 2 && q.epc == q.address && q.pid == q.savedpid && q.cid == q.savedcid
 }
 
 // A resume: the registers are brought back, if their hash is right, with mode 1; pc = EPC.
+#[tactic(auto, using(crate::proofs::Suspending::same_pointwise), unfolding(instructions::specs::Suspend::returned, instructions::specs::Suspend::restored, instructions::specs::Suspend::hash_right, instructions::specs::Suspend::hash_of, instructions::specs::Suspend::hidden, instructions::specs::Board::document_board, ciphers::specs::Cipher::aes_cipher))]
 fn resume(r: &mut [u64; 32], q: Special) -> Ended
     requires { true ≡ s.resumes (processor_of r.old q) }
     ensures { Returns document_board aes_cipher (key_of q) (processor_of r.old q)
-        result.fault r.new result.special }
+        (fault_in result.fault) r.new result.special }
 {
     let h = q.hash;
     let old = *r;
-    let back = hiding::hide(q.drkhi, q.drklo, &h, old);
-    let again = hiding::hash(q.drkhi, q.drklo, back);
-    if sealing::same(&again, &h) {
+    let back = hiding::hide(q.drk(), &h, old);
+    if hiding::hash(q.drk(), back) == h {
         let mut x = q;
         x.pc = q.epc;
         x.mode = 1;
         replace(r, back);
         return Ended {
-            fault: 0,
+            fault: None,
             special: x,
         };
     }
-    let y = enter(r, q, 6);
-    Ended {
-        fault: 6,
-        special: y,
-    }
+    faulted(r, q, Fault::RegisterHashWrong)
 }
 
 // rfi: a resume, or a jump to EPC.
+#[tactic(auto, unfolding(instructions::specs::Suspend::returned))]
 pub fn rfi(r: &mut [u64; 32], q: Special) -> Ended
     ensures { Returns document_board aes_cipher (key_of q) (processor_of r.old q)
-        result.fault r.new result.special }
+        (fault_in result.fault) r.new result.special }
 {
     if resuming(r, q) {
         return resume(r, q);
@@ -98,7 +104,7 @@ pub fn rfi(r: &mut [u64; 32], q: Special) -> Ended
     let mut x = q;
     x.pc = q.epc;
     Ended {
-        fault: 0,
+        fault: None,
         special: x,
     }
 }

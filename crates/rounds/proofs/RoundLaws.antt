@@ -2,36 +2,28 @@
 use mathlib.Core.Path.{◌≡◌, sym, ap, ◌∙◌}
 use mathlib.Core.List.{List}
 use Prim.Native.Nat.{ℕ, ◌%◌, ◌<◌}
+use lib.ListN.{length, get_or}
+use Rattle.std.specs.Int.{bytes_high_first}
+use Rattle.std.proofs.lemmas.List.{get_or_default}
 use native.Mathlib.Omega.{arith}
-use lib.Bits.{bit_xor}
 use Rattle.field.specs.Field.{◌⊕◌, ◌•◌}
-use Rattle.field.specs.Mixing.{word, share}
+use Rattle.field.specs.Mixing.{share}
 use Rattle.field.proofs.Product.{•-lt}
 use Rattle.field.proofs.MixingLaws.{row, ⊕_turn}
 use Rattle.columns.specs.declared.Columns.{Columns}
 use Rattle.aes_standard.specs.State.{at, state, byte_of, shift_rows, mix_with, add_round_key}
 use Rattle.rounds.specs.Ways.{Way, Shares, Puts, Round, Last, moved_by, round_by, last_by}
-use Rattle.columns.specs.Words.{Bytes, RoundKey, turned, four_words, block_of, shared_word, picked_word, lowest_word}
+use Rattle.columns.specs.Words.{Bytes, RoundKey, four_words, block_of, shared_word, picked_word, lowest_word}
 use Rattle.columns.proofs.WordLaws.{word_bytes, turned-bytes, bytes-⊕, bytes_of, four_bytes}
-use Rattle.aes_standard.proofs.WordBytes.{byte_of-last, byte_of-lt}
+use Rattle.aes_standard.proofs.WordBytes.{byte_of-lt}
 
--- the code's sum of four look-ups is the sum of the shares
-pub shared_is : (t : List ℕ) (a b c d k p q r : ℕ)
-    → p ≡ turned (at t (byte_of a 0)) 2 → q ≡ turned (at t (byte_of b 1)) 3 → r ≡ turned (at t (d % 256)) 1
-    → bit_xor (bit_xor (bit_xor (bit_xor p q) (at t (byte_of c 2))) r) k ≡ shared_word t a b c d ⊕ k
-unfolding ◌⊕◌ shared_word
-shared_is t a b c d k p q r e f g i =
-    bit_xor (bit_xor (bit_xor (bit_xor (e i) (f i)) (at t (byte_of c 2)))
-    ((g ∙ ap (λ (n : ℕ). turned (at t n) 1) (byte_of-last d)) i)) k
-
--- the code's word of four look-ups is the word of what was picked
-pub picked_is : (g : ℕ → ℕ) (t : List ℕ) (a b c d k w : ℕ)
-    → w ≡ word (g (at t (byte_of a 0))) (g (at t (byte_of b 1))) (g (at t (byte_of c 2))) (g (at t (d % 256)))
-    → bit_xor w k ≡ picked_word g t a b c d ⊕ k
-unfolding ◌⊕◌ picked_word
-picked_is g t a b c d k w e i =
-    bit_xor ((e ∙ ap (λ (n : ℕ). word (g (at t (byte_of a 0))) (g (at t (byte_of b 1))) (g (at t (byte_of c 2)))
-    (g (at t n))) (byte_of-last d)) i) k
+-- an entry of a table at a byte of a word, whatever stands for one past the table's end
+pub entry_at : {A : Type 0} (t : List A) (bytes : List ℕ) (j w : ℕ) (p e : A) → length t ≡ 256
+    → bytes ≡ bytes_high_first 4 w → get_or (bytes_high_first 4 w) j 0 ≡ byte_of w j
+    → get_or t (get_or bytes j 0) p ≡ get_or t (byte_of w j) e
+entry_at t bytes j w p e size f g =
+    ap (λ (k : ℕ). get_or t k p) (ap (λ (l : List ℕ). get_or l j 0) f ∙ g)
+    ∙ get_or_default t (byte_of w j) p e (rw size (byte_of-lt w j))
 
 pub picked_bytes : (g : ℕ → ℕ) (t : List ℕ) (a b c d : ℕ) → ((k : ℕ) → k < 256 → g (at t k) < 256)
     → Bytes (picked_word g t a b c d) (g (at t (byte_of a 0))) (g (at t (byte_of b 1))) (g (at t (byte_of c 2)))

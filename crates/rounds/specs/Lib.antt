@@ -1,2 +1,3 @@
--- The two ways through the rounds.
+-- The two ways through the rounds, and the parts of a round.
 pub mod Ways
+pub mod Parts

@@ -6,41 +6,50 @@ ghost use Rattle.std.specs.Prelude.{◌≡◌, ◌≤◌};
 ghost use Rattle.field.specs.Field.{◌⊕◌};
 ghost use Rattle.aes_standard.specs.State.{add_round_key};
 ghost use Rattle.rounds.specs.Ways.{Round, Last};
+ghost use Rattle.rounds.specs.Parts.{entries, turned_left, Each};
 ghost use Rattle.columns.specs.Words.{RoundKey, block_of, shared_word, substituted_word, lowest_word};
 
 use columns::Columns;
 
-// The shares of four bytes in their column, plus a word of a round key.
-pub fn shared(t: &[u32; 256], a: u32, b: u32, c: u32, d: u32, k: u32) -> u32
-    ensures { result ≡ shared_word t.now a b c d ⊕ k }
+// The entries of a table at the first byte of the first column, the second of the second, and so on.
+fn diagonal<T: Copy>(t: &[T; 256], x: Columns) -> [T; 4]
+    ensures { (e : T) → result ≡ entries e t.now x.a x.b x.c x.d }
 {
-    let w = t[(a / 16777216 % 256) as usize];
-    let x = t[(b / 65536 % 256) as usize];
-    let y = t[(c / 256 % 256) as usize];
-    let z = t[(d % 256) as usize];
-    columns::turn_two(w) ^ columns::turn_three(x) ^ y ^ columns::turn_one(z) ^ k
+    [
+        t[x.a.to_be_bytes()[0] as usize],
+        t[x.b.to_be_bytes()[1] as usize],
+        t[x.c.to_be_bytes()[2] as usize],
+        t[x.d.to_be_bytes()[3] as usize],
+    ]
 }
 
-// Four bytes, each substituted, plus a word of a round key.
-pub fn substituted(t: &[u8; 256], a: u32, b: u32, c: u32, d: u32, k: u32) -> u32
-    ensures { result ≡ substituted_word t.now a b c d ⊕ k }
+// The shares of the bytes of a diagonal in their column, plus a word of a round key.
+pub fn shared(t: &[u32; 256], x: Columns, k: u32) -> u32
+    ensures { result ≡ shared_word t.now x.a x.b x.c x.d ⊕ k }
 {
-    let w = t[(a / 16777216 % 256) as usize];
-    let x = t[(b / 65536 % 256) as usize];
-    let y = t[(c / 256 % 256) as usize];
-    let z = t[(d % 256) as usize];
-    columns::word_of(w, x, y, z) ^ k
+    let [a, b, c, d] = diagonal(t, x);
+    columns::turn::<2>(a) ^ columns::turn::<3>(b) ^ c ^ columns::turn::<1>(d) ^ k
 }
 
-// The last bytes of the entries of four bytes, plus a word of a round key.
-fn lowest(t: &[u32; 256], a: u32, b: u32, c: u32, d: u32, k: u32) -> u32
-    ensures { result ≡ lowest_word t.now a b c d ⊕ k }
+// The bytes of a diagonal, each substituted, plus a word of a round key.
+pub fn substituted(t: &[u8; 256], x: Columns, k: u32) -> u32
+    ensures { result ≡ substituted_word t.now x.a x.b x.c x.d ⊕ k }
 {
-    let w = t[(a / 16777216 % 256) as usize] % 256;
-    let x = t[(b / 65536 % 256) as usize] % 256;
-    let y = t[(c / 256 % 256) as usize] % 256;
-    let z = t[(d % 256) as usize] % 256;
-    columns::word_of(w as u8, x as u8, y as u8, z as u8) ^ k
+    let [a, b, c, d] = diagonal(t, x);
+    columns::word_of(a, b, c, d) ^ k
+}
+
+// The last bytes of the entries of a diagonal, plus a word of a round key.
+fn lowest(t: &[u32; 256], x: Columns, k: u32) -> u32
+    ensures { result ≡ lowest_word t.now x.a x.b x.c x.d ⊕ k }
+{
+    let [a, b, c, d] = diagonal(t, x);
+    columns::word_of(
+        (a % 256) as u8,
+        (b % 256) as u8,
+        (c % 256) as u8,
+        (d % 256) as u8,
+    ) ^ k
 }
 
 // Round key r.
@@ -65,27 +74,45 @@ pub fn add_round_key(x: Columns, w: &[u32; 44], r: usize) -> Columns
     columns::plus(x, round_key(w, r))
 }
 
+// The columns from the second on, and then the first.
+fn onward(x: Columns) -> Columns
+    ensures { result ≡ turned_left x }
+{
+    Columns {
+        a: x.b,
+        b: x.c,
+        c: x.d,
+        d: x.a,
+    }
+}
+
+// The state of which column i is made of the columns of x from i on, counted round, and of word i of k.
+fn each<F: Fn(Columns, u32) -> u32>(x: Columns, k: Columns, column: F) -> Columns
+    requires { F.IsAlwaysCallable column }
+    ensures { Each (F.post column) x k result }
+{
+    let second = onward(x);
+    let third = onward(second);
+    let fourth = onward(third);
+    Columns {
+        a: column(x, k.a),
+        b: column(second, k.b),
+        c: column(third, k.c),
+        d: column(fourth, k.d),
+    }
+}
+
 // A full round, with round key r.
 pub fn full(t: &[u32; 256], x: Columns, w: &[u32; 44], r: usize) -> Columns
     requires { r ≤ 10 }
     ensures { Round t.now w.now r (block_of x) (block_of result) }
 {
-    let k = round_key(w, r);
-    let a = shared(t, x.a, x.b, x.c, x.d, k.a);
-    let b = shared(t, x.b, x.c, x.d, x.a, k.b);
-    let c = shared(t, x.c, x.d, x.a, x.b, k.c);
-    let d = shared(t, x.d, x.a, x.b, x.c, k.d);
-    Columns { a, b, c, d }
+    each(x, round_key(w, r), |y, k| shared(t, y, k))
 }
 
 // The last round.
 pub fn last(u: &[u32; 256], x: Columns, w: &[u32; 44]) -> Columns
     ensures { Last u.now w.now (block_of x) (block_of result) }
 {
-    let k = round_key(w, 10);
-    let a = lowest(u, x.a, x.b, x.c, x.d, k.a);
-    let b = lowest(u, x.b, x.c, x.d, x.a, k.b);
-    let c = lowest(u, x.c, x.d, x.a, x.b, k.c);
-    let d = lowest(u, x.d, x.a, x.b, x.c, k.d);
-    Columns { a, b, c, d }
+    each(x, round_key(w, 10), |y, k| lowest(u, y, k))
 }

@@ -29,3 +29,7 @@ pub record InverseKey (w : List ℕ) (r : ℕ) (y : Columns) : Type 0 where
 -- The words v are the inverse cipher's first n round keys: the schedule's, the last one first.
 pub record InverseKeys (n : ℕ) (w v : List ℕ) : Type 0 where
   pub key : (r j : ℕ) → r < n → j < 4 → Taken (10 - r) (at w ((10 - r) * 4 + (4 - j) % 4)) (at v (r * 4 + j))
+
+-- Four columns alike.
+abbrev pub alike : ℕ → Columns
+alike k = record { a = k; b = k; c = k; d = k }

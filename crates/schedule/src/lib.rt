@@ -7,7 +7,7 @@ ghost use Rattle.field.specs.Mixing.{unmixed_entry};
 ghost use Rattle.field.specs.Table.{Table};
 ghost use Rattle.aes_standard.specs.Schedule.{key_expansion};
 ghost use Rattle.columns.specs.Words.{NextKey, four_set};
-ghost use Rattle.schedule.specs.Inverse.{Unmixed, InverseKey, InverseKeys};
+ghost use Rattle.schedule.specs.Inverse.{Unmixed, InverseKey, InverseKeys, alike};
 
 use columns::Columns;
 
@@ -17,17 +17,32 @@ const RCON: [u32; 10] = [
     0x1b000000, 0x36000000,
 ];
 
+// Four columns alike.
+fn alike(k: u32) -> Columns
+    ensures { result ≡ alike k }
+{
+    Columns {
+        a: k,
+        b: k,
+        c: k,
+        d: k,
+    }
+}
+
 // The four words of the schedule after x.
 fn next(t: &[u8; 256], x: Columns, rcon: u32) -> Columns
     requires { Table 256 sub_byte t.now }
     ensures { NextKey x rcon result }
 {
-    let d = x.d;
-    let turned = columns::turn_three(d);
-    let a = x.a ^ rounds::substituted(t, turned, turned, turned, turned, rcon);
+    let a = x.a ^ rounds::substituted(t, alike(columns::turn::<3>(x.d)), rcon);
     let b = x.b ^ a;
     let c = x.c ^ b;
-    Columns { a, b, c, d: d ^ c }
+    Columns {
+        a,
+        b,
+        c,
+        d: x.d ^ c,
+    }
 }
 
 // Lays four words down as words 4 r to 4 r + 3.
@@ -51,12 +66,9 @@ pub fn expand(key: &[u8; 16]) -> [u32; 44]
     let mut w = [0u32; 44];
     let mut x = columns::columns_of(key);
     put(&mut w, 0, x);
-    let mut r: usize = 0;
-    while r < 10 {
-        let y = next(&t, x, constants[r]);
-        x = y;
-        r += 1;
-        put(&mut w, r, x);
+    for r in 0..10 {
+        x = next(&t, x, constants[r]);
+        put(&mut w, r + 1, x);
     }
     w
 }
@@ -67,8 +79,8 @@ fn unmixed(s: &[u8; 256], t: &[u32; 256], k: u32) -> u32
     requires table_2 { Table 256 unmixed_entry t.now }
     ensures { Unmixed k result }
 {
-    let x = rounds::substituted(s, k, k, k, k, 0);
-    rounds::shared(t, x, x, x, x, 0)
+    let x = rounds::substituted(s, alike(k), 0);
+    rounds::shared(t, alike(x), 0)
 }
 
 // What the inverse cipher takes for round key r of the schedule w, through the S-box s and the table t.
@@ -78,18 +90,16 @@ fn inverse_key(s: &[u8; 256], t: &[u32; 256], w: &[u32; 44], r: usize) -> Column
     requires r_bound { r ≤ 10 }
     ensures { InverseKey w.now r result }
 {
-    let k = rounds::round_key(w, r);
-    if r == 0 {
-        return columns::flip(k);
+    let k = columns::flip(rounds::round_key(w, r));
+    if r == 0 || r == 10 {
+        return k;
     }
-    if r == 10 {
-        return columns::flip(k);
+    Columns {
+        a: unmixed(s, t, k.a),
+        b: unmixed(s, t, k.b),
+        c: unmixed(s, t, k.c),
+        d: unmixed(s, t, k.d),
     }
-    let a = unmixed(s, t, k.a);
-    let b = unmixed(s, t, k.d);
-    let c = unmixed(s, t, k.c);
-    let d = unmixed(s, t, k.b);
-    Columns { a, b, c, d }
 }
 
 // The keys of the inverse cipher, in the order of their use.
@@ -99,11 +109,8 @@ pub fn invert(w: &[u32; 44]) -> [u32; 44]
     let s = tables::sbox();
     let t = tables::unmixed();
     let mut v = [0u32; 44];
-    let mut r: usize = 0;
-    while r < 11 {
-        let y = inverse_key(&s, &t, w, 10 - r);
-        put(&mut v, r, y);
-        r += 1;
+    for r in 0..11 {
+        put(&mut v, r, inverse_key(&s, &t, w, 10 - r));
     }
     v
 }

@@ -3,6 +3,8 @@ use mathlib.Core.Path.{◌≡◌, refl, sym, ap, ap₂, ◌∙◌}
 use mathlib.Core.Bool.{Bool, true, false}
 use mathlib.Core.List.{List}
 use Prim.Native.Nat.{ℕ}
+use lib.Pointwise.{bytes_decides}
+use Rattle.std.specs.Str.{bytes_eq}
 use Rattle.lists.specs.Bytes.{same, zeros}
 use Rattle.lists.specs.Words.{little_bytes, big_bytes}
 use Rattle.lists.proofs.ByteLaws.{same_refl, same_true}
@@ -34,3 +36,9 @@ same_decides true a b yes-then then-yes = sym (ap (same a) (sym (yes-then refl))
 same_decides false a b yes-then then-yes =
     by_test (same a b) (λ (e : same a b ≡ true). then-yes (same_true a b e) ∙ sym e)
     (λ (e : same a b ≡ false). sym e)
+
+-- what `==` of two rows of bytes answers is that test
+pub same_is : (r : Bool) (a b : List ℕ) → r ≡ bytes_eq a b → r ≡ same a b
+same_is r a b e =
+    let decides = bytes_decides a b in
+    same_decides r a b (λ (yes : r ≡ true). decides.0 (sym e ∙ yes)) (λ (equal : a ≡ b). e ∙ decides.1 equal)

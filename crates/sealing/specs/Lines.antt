@@ -7,10 +7,15 @@ use Rattle.aes_standard.specs.Schedule.{key_expansion}
 use Rattle.aes_standard.specs.Cipher.{cipher}
 use Rattle.aes_standard.specs.Chain.{cbc_encrypt, cbc_decrypt}
 use Rattle.cmac.specs.Cmac.{cmac}
+use Rattle.sealing.specs.declared.Drk.{Drk}
 
 -- A DRK of two words, the high one first.
 unfoldable pub drk_of : ℕ → ℕ → List ℕ
 drk_of hi lo = big_bytes 8 hi ++ big_bytes 8 lo
+
+-- The sixteen bytes of a DRK.
+abbrev pub drk_in : Drk → List ℕ
+drk_in k = drk_of k.high k.low
 
 -- CMAC of any bytes under a DRK.
 unfoldable pub mac_of : List ℕ → List ℕ → List ℕ

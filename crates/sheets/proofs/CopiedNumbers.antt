@@ -1,21 +1,20 @@
--- The numbers of a directory, copied one after the other.
-use mathlib.Core.Path.{◌≡◌, ◌∙◌}
-use mathlib.Core.List.{List}
-use Prim.Native.Nat.{ℕ, ◌+◌, ◌<◌}
-use native.Mathlib.Omega.{arith}
-use lib.ListN.{length, get_or, set}
-use lib.Seq.{get_or-set_same, get_or-set_other}
-use Rattle.sheets.specs.Figures.{SameNumbers}
+-- The numbers of an array that a closure gives one after the other, itself unchanged.
+use Rattle.std.proofs.Common.{◌≡◌, ◌∙◌, ℕ, zero, suc, ◌+◌, ◌<◌, ◌≤◌, zero-le, List, arith}
+use Rattle.std.specs.Fn.{Called}
+use Rattle.std.specs.Array.{IsFromFnResultFrom, IsFromFnResult}
+use denote.Param.Members.{Mut}
+use lib.ListN.{get_or}
 use Rattle.lists.proofs.Cases.{by-eq}
 
-pub no_numbers : (dir r : List ℕ) → SameNumbers 0 dir r
-no_numbers dir r = record { each = λ i h. absurd (omega (arith, h)) }
+module _ {F : Type 0} (g : Mut F (ℕ × Unit {0}) ℕ) (value : ℕ → ℕ) (f : F)
+    (step : (i y : ℕ) (q : F) → Called g f (i, tt) y q → (y ≡ value i) × (q ≡ f)) where
+  made_from : (n i : ℕ) (ys : List ℕ) → IsFromFnResultFrom g f ys i n → (k : ℕ) → i ≤ k → k < i + n
+      → get_or ys k 0 ≡ value k
+  made_from zero i ys made k low high = absurd (omega arith)
+  made_from (suc n) i ys (q, y, at, call, rest) k low high =
+      let made = step i y q call in
+      by-eq k i (λ (same : k ≡ i). rw same (at.1 0 ∙ made.0))
+      (λ (other : k ≡ i → ⊥). made_from n (i + 1) ys (rw made.1 at rest) k (omega (arith, other)) (omega arith))
 
-pub one_more : (n : ℕ) (dir r : List ℕ) (x : ℕ) → n < length r → x ≡ get_or dir n 0 → SameNumbers n dir r
-    → SameNumbers (n + 1) dir (set r n x)
-one_more n dir r x h e s =
-    record {
-      each = λ i l.
-          by-eq i n (λ (q : i ≡ n). rw (q, get_or-set_same r n x 0 h) e)
-          (λ (q : i ≡ n → ⊥). get_or-set_other r n i x 0 q ∙ s.each i (omega (arith, l, q)));
-    }
+  pub made_at : (n : ℕ) (ys : List ℕ) → IsFromFnResult g f ys n → (k : ℕ) → k < n → get_or ys k 0 ≡ value k
+  made_at n ys made k low = made_from n 0 ys made.each k zero-le (omega arith)

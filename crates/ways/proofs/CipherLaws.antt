@@ -1,8 +1,7 @@
 -- The loop of the code and the rounds of the cipher, step by step, and the two ways that its tables are for.
-use mathlib.Core.Path.{◌≡◌, refl, ap, ap₂, ◌∙◌}
+use mathlib.Core.Path.{◌≡◌, refl, sym, ap, ap₂, ◌∙◌}
 use mathlib.Core.List.{List}
-use Prim.Native.Nat.{ℕ, suc, ◌+◌}
-use native.Mathlib.Numerals.{add-one}
+use Prim.Native.Nat.{ℕ, suc}
 use Rattle.field.specs.Field.{inv_sub_byte}
 use Rattle.field.specs.Mixing.{mixed_entry, unmixed_entry}
 use Rattle.field.specs.Table.{Table}
@@ -24,12 +23,12 @@ pub rounds-none : (t w s : List ℕ) → Rounds t w 0 s s
 unfolding rounds_by
 rounds-none t w s = record { by = λ y h. refl }
 
-pub rounds_more : (t w s : List ℕ) (n : ℕ) (x z : List ℕ) → Round t w (n + 1) x z → Rounds t w n s x
-    → Rounds t w (n + 1) s z
+pub rounds_more : (t w s : List ℕ) (r n m : ℕ) (x z : List ℕ) → r ≡ suc n → m ≡ suc n → Round t w r x z
+    → Rounds t w n s x → Rounds t w m s z
 unfolding rounds_by
-rounds_more t w s n x z e h = record {
-  by = λ y shares. e.by y shares
-      ∙ rw add-one (ap (round_by y w (suc n)) (h.by y shares));
+rounds_more t w s r n m x z p q e h = record {
+  by = λ y shares. e.by y shares ∙ ap₂ (λ (k : ℕ) (b : List ℕ). round_by y w k b) p (h.by y shares)
+      ∙ ap (λ (k : ℕ). rounds_by y w k s) (sym q);
 }
 
 pub through_done : (t u w s x₀ : List ℕ) (n : ℕ) (x z : List ℕ) → n ≡ 9 → x₀ ≡ add_round_key w 0 s

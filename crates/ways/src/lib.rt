@@ -11,11 +11,8 @@ pub fn through(t: &[u32; 256], u: &[u32; 256], w: &[u32; 44], block: Columns) ->
     ensures { Through t.now u.now w.now (block_of block) (block_of result) }
 {
     let mut x = rounds::add_round_key(block, w, 0);
-    let mut n: usize = 0;
-    while n < 9 {
-        n += 1;
-        let y = rounds::full(t, x, w, n);
-        x = y;
+    for r in 1..10 {
+        x = rounds::full(t, x, w, r);
     }
     rounds::last(u, x, w)
 }

@@ -1,2 +1,2 @@
--- The laws of `words`, file by file.
-pub mod Halves
+-- The laws of `words`.
+pub mod Words

@@ -2,5 +2,5 @@
 use Rattle.bus.proofs.Transfers.{read_done}
 use Rattle.bus.proofs.read.Goals as goal
 
-pub returns : goal.returns
-returns c = read_done c.args.n _ _ _ c.drop_line-k.ensures _ c.copy_from_slice.ensures.after
+pub returns-clause-handles : goal.returns-clause-handles
+returns-clause-handles c = read_done c.args.n _ _ _ c.drop_line-k.ensures.does _ c.load.ensures

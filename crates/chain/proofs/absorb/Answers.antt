@@ -4,7 +4,6 @@ use mathlib.Core.Path.{sym, ap, ◌∙◌}
 use mathlib.Core.List.{List}
 use lib.ListN.{length, drop}
 use native.Mathlib.Omega.{arith}
-use borrow.Author.Rules.{rules}
 use Rattle.columns.specs.Words.{block_of}
 use Rattle.aes_standard.specs.Chain.{absorbed, last_of_chain}
 use Rattle.chain.proofs.ChainLaws.{absorbed-one, absorbed-none, absorbed-from, last_of_chain-none}
@@ -14,11 +13,10 @@ pub returns-then-n-eq0 : goal.returns-then-n-eq0
 returns-then-n-eq0 c = last_of_chain-none c.args.w.now c.args.before.now c.args.b.now (omega arith)
 
 pub loop-i-preserved : goal.loop-i-preserved
-loop-i-preserved c = (
-  search rules,
-  c.loop-i.invariant.1 ∙ absorbed-one c.args.w.now (length c.args.b.now / 16) c.loop-i.i (block_of c.loop-i.x)
-      c.args.b.now (block_of c.link-y.result) (omega arith) c.link-y.ensures,
-)
+loop-i-preserved c =
+    c.loop-i.invariant
+    ∙ absorbed-one c.args.w.now (length c.args.b.now / 16) c.loop-i.i (block_of c.loop-i.x) c.args.b.now
+    (block_of c.link-x.result) (omega arith) c.link-x.ensures
 
 pub returns : goal.returns
 unfolding last_of_chain
@@ -27,6 +25,6 @@ returns c =
     c.bytes_of.ensures
     ∙ sym (absorbed-none c.args.w.now n c.loop-i.i (block_of c.loop-i.x) (drop (c.loop-i.i * 16) c.args.b.now)
     (omega arith))
-    ∙ sym c.loop-i.invariant.1
+    ∙ sym c.loop-i.invariant
     ∙ ap (λ (z : List ℕ). absorbed c.args.w.now n z c.args.b.now) c.columns_of-x.ensures.block
     ∙ absorbed-from c.args.w.now n c.args.before.now c.args.b.now (omega arith)

@@ -1,5 +1,5 @@
 -- What is left to be absorbed gives the answer.
-use Prim.Native.Nat.{◌-◌, ◌*◌, ◌≤◌}
+use Prim.Native.Nat.{◌-◌, ◌*◌}
 use mathlib.Core.Path.{◌≡◌}
 use lib.ListN.{drop}
 use Rattle.columns.specs.Words.{block_of}
@@ -8,8 +8,4 @@ use Rattle.chain.proofs.absorb.Given as goal
 
 abbrev pub invariant-loop-i : goal.invariant-loop-i
 invariant-loop-i l =
-    (l.i ≤ l.n)
-    × (absorbed l.w l.n (block_of l.initial.x) l.b ≡ absorbed l.w (l.n - l.i) (block_of l.x) (drop (l.i * 16) l.b))
-
-abbrev pub decreases-loop-i : goal.decreases-loop-i
-decreases-loop-i l = l.n - l.i
+    (absorbed l.w l.n (block_of l.initial.x) l.b ≡ absorbed l.w (l.n - l.i) (block_of l.x) (drop (l.i * 16) l.b))

@@ -1,5 +1,5 @@
 -- The blocks before place i stand as they will be, and what is made of the rest is the answer's rest.
-use Prim.Native.Nat.{◌-◌, ◌≤◌}
+use Prim.Native.Nat.{◌-◌}
 use Rattle.columns.specs.Words.{block_of}
 use Rattle.aes_standard.specs.Chain.{chained}
 use Rattle.chain.proofs.ChainLaws.{After}
@@ -7,9 +7,5 @@ use Rattle.chain.proofs.encrypt.Given as goal
 
 abbrev pub invariant-loop-i : goal.invariant-loop-i
 invariant-loop-i l =
-    (l.i ≤ l.n)
-    × After l.i (chained l.w l.n (block_of l.initial.x) l.initial.b) l.initial.b l.b
+    After l.i (chained l.w l.n (block_of l.initial.x) l.initial.b) l.initial.b l.b
     (chained l.w (l.n - l.i) (block_of l.x))
-
-abbrev pub decreases-loop-i : goal.decreases-loop-i
-decreases-loop-i l = l.n - l.i

@@ -1,5 +1,5 @@
 -- The blocks before place i stand as they will be, and what is made of the rest is the answer's rest.
-use Prim.Native.Nat.{◌-◌, ◌≤◌}
+use Prim.Native.Nat.{◌-◌}
 use Rattle.columns.specs.Words.{block_of}
 use Rattle.aes_standard.specs.Chain.{unchained}
 use Rattle.rounds.specs.Ways.{eq_inv_cipher}
@@ -8,9 +8,5 @@ use Rattle.chain.proofs.unchain.Given as goal
 
 abbrev pub invariant-loop-i : goal.invariant-loop-i
 invariant-loop-i l =
-    (l.i ≤ l.n)
-    × After l.i (unchained (eq_inv_cipher l.v) l.n (block_of l.initial.x) l.initial.b) l.initial.b l.b
+    After l.i (unchained (eq_inv_cipher l.v) l.n (block_of l.initial.x) l.initial.b) l.initial.b l.b
     (unchained (eq_inv_cipher l.v) (l.n - l.i) (block_of l.x))
-
-abbrev pub decreases-loop-i : goal.decreases-loop-i
-decreases-loop-i l = l.n - l.i

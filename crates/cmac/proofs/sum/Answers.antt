@@ -1,10 +1,9 @@
 -- The columns' sum is that of the blocks.
-use mathlib.Core.Path.{◌∙◌}
-use Rattle.columns.specs.Words.{block_of}
-use Rattle.cmac.proofs.Steps.{summed}
+use mathlib.Core.Path.{ap₂, ◌∙◌}
+use Rattle.aes_standard.specs.State.{plus}
 use Rattle.cmac.proofs.sum.Goals as goal
 
 pub returns : goal.returns
+unfolding plus
 returns c =
-    summed c.args.a.now c.args.b.now (block_of c.columns_of.result) (block_of c.columns_of-2.result) _
-    c.columns_of.ensures.block c.columns_of-2.ensures.block (c.bytes_of.ensures ∙ c.plus.ensures)
+    c.bytes_of.ensures ∙ c.plus.ensures ∙ ap₂ plus c.columns_of.ensures.block c.columns_of-2.ensures.block

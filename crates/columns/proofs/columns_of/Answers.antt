@@ -1,20 +1,9 @@
--- `columns::columns_of` meets its promise.
-use Rattle.columns.proofs.WordLaws.{loaded_at}
-use Rattle.aes_standard.specs.Schedule.{key_word}
+-- The columns from place 0 on, whose words are the block's.
+use Rattle.columns.proofs.WordLaws.{loaded}
+use Rattle.std.proofs.Common.{arith}
 use Rattle.columns.proofs.columns_of.Goals as goal
 
 pub returns : goal.returns
-unfolding key_word
 returns c =
-    let a = c.word_at.ensures in
-    let b = c.word_at-2.ensures in
-    let d = c.word_at-3.ensures in
-    let e = c.word_at-4.ensures in
-    record {
-      block = loaded_at c.args.b.now
-          0 _ _ _ _ a b d e;
-      first = a.is;
-      second = b.is;
-      third = d.is;
-      fourth = e.is;
-    }
+    loaded c.args.b.now c.columns_at.result (omega arith) (omega arith) (omega arith) (omega arith)
+    c.columns_at.ensures

@@ -1,7 +1,7 @@
--- `columns::word_of` meets its promise.
+-- Four bytes, each by its worth.
 use Rattle.field.specs.Mixing.{word}
 use Rattle.aes_standard.specs.State.{byte_of}
-use native.Mathlib.Omega.{arith}
+use Rattle.std.proofs.Common.{arith}
 use Rattle.columns.proofs.word_of.Goals as goal
 
 pub returns : goal.returns

@@ -1,27 +1,22 @@
 -- `depot::open_line` meets its promise.
-use Rattle.std.proofs.Common.{refl}
+use Rattle.std.proofs.Common.{rules, refl, ◌≡◌, true, false}
+use Rattle.std.specs.Str.{bytes_eq}
 use Rattle.ciphers.specs.Cipher.{aes_cipher}
 use Rattle.sealing.specs.Lines.{drk_of}
-use Rattle.depot.proofs.CallLaws.{flaw_address, flaw_line, flaw_mac, open_refused, open_109, open_done}
+use Rattle.sealing.proofs.LineLaws.{same_is}
+use Rattle.depot.proofs.CallLaws.{open_109, open_done}
 use Rattle.depot.proofs.open_line.Goals as goal
 
-pub returns-then-address-ne0 : goal.returns-then-address-ne0
-returns-then-address-ne0 c = open_refused _ _ _ _ _ refl (flaw_address _ _ _ _ c.if-address-ne0.true)
-
-pub returns-then-line-ne64 : goal.returns-then-line-ne64
-returns-then-line-ne64 c = open_refused _ _ _ _ _ refl (flaw_line _ _ _ _ c.if-address-ne0.false c.if-line-ne64.true)
-
-pub returns-then-mac-ne16 : goal.returns-then-mac-ne16
-returns-then-mac-ne16 c = open_refused _ _ _ _ _ refl (flaw_mac _ _ _ _ c.if-address-ne0.false c.if-line-ne64.false c.if-mac-ne16.true)
-
-pub returns-then-not-same : goal.returns-then-not-same
+pub returns-then-ne : goal.returns-then-ne
 unfolding aes_cipher
-returns-then-not-same c =
-    open_109 aes_cipher (drk_of c.args.hi c.args.lo) c.args.address c.args.line.now c.args.mac.now c.data_mac-made.result c.same.result
-    c.if-address-ne0.false c.if-line-ne64.false c.if-mac-ne16.false c.data_mac-made.ensures c.same.ensures c.if-not-same.true
+returns-then-ne c =
+    let wrong : bytes_eq c.data_mac.result c.args.mac.now ≡ false = search rules in
+    open_109 aes_cipher (drk_of c.args.drk.high c.args.drk.low) c.args.address c.args.line.now c.args.mac.now c.data_mac.result _
+    c.if-address-ne0.false c.if-line-ne64.false c.if-mac-ne16.false c.data_mac.ensures (same_is _ _ _ refl) wrong
 
 pub returns : goal.returns
 unfolding aes_cipher
 returns c =
-    open_done aes_cipher (drk_of c.args.hi c.args.lo) c.args.address c.args.line.now c.args.mac.now _ c.data_mac-made.result c.same.result
-    c.if-address-ne0.false c.if-line-ne64.false c.if-mac-ne16.false c.data_mac-made.ensures c.same.ensures c.if-not-same.false c.unseal.ensures
+    let right : bytes_eq c.data_mac.result c.args.mac.now ≡ true = search rules in
+    open_done aes_cipher (drk_of c.args.drk.high c.args.drk.low) c.args.address c.args.line.now c.args.mac.now _ c.data_mac.result _
+    c.if-address-ne0.false c.if-line-ne64.false c.if-mac-ne16.false c.data_mac.ensures (same_is _ _ _ refl) right c.unseal.ensures

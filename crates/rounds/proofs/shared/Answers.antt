@@ -1,11 +1,9 @@
--- `rounds::shared` meets its promise.
-use Rattle.rounds.proofs.RoundLaws.{shared_is}
-use Rattle.aes_standard.specs.State.{byte_of}
+-- The sum of the shares of the diagonal's entries.
+use Rattle.std.proofs.Common.{refl}
+use Rattle.field.specs.Field.{◌⊕◌}
+use Rattle.columns.specs.Words.{shared_word}
 use Rattle.rounds.proofs.shared.Goals as goal
 
 pub returns : goal.returns
-unfolding byte_of
-returns c =
-    let args = c.args in
-    shared_is args.t.now args.a args.b args.c args.d args.k _ _ _
-    c.turn_two.ensures c.turn_three.ensures c.turn_one.ensures
+unfolding ◌⊕◌ shared_word
+returns c = rw (c.turn.ensures, c.turn-2.ensures, c.turn-3.ensures, c.diagonal.ensures 0) refl

@@ -1,10 +1,9 @@
--- `rounds::substituted` meets its promise.
-use Rattle.rounds.proofs.RoundLaws.{picked_is}
-use Rattle.aes_standard.specs.State.{byte_of}
+-- The word of the diagonal's entries.
+use Rattle.std.proofs.Common.{refl}
+use Rattle.field.specs.Field.{◌⊕◌}
+use Rattle.columns.specs.Words.{picked_word}
 use Rattle.rounds.proofs.substituted.Goals as goal
 
 pub returns : goal.returns
-unfolding byte_of
-returns c =
-    let args = c.args in
-    picked_is (λ x. x) args.t.now args.a args.b args.c args.d args.k _ c.word_of.ensures.is
+unfolding ◌⊕◌ picked_word
+returns c = rw (c.word_of.ensures.is, c.diagonal.ensures 0) refl

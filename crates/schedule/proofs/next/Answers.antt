@@ -1,4 +1,4 @@
--- `schedule::next` meets its promise.
+-- The first word takes the fourth one, turned and substituted; each other one takes the word before it.
 use mathlib.Core.Path.{refl, ap}
 use Prim.Native.Nat.{ℕ}
 use lib.Bits.{bit_xor}
@@ -12,8 +12,8 @@ returns c =
     let args = c.args in
     record {
       first = ap (λ (z : ℕ). bit_xor args.x.a z)
-          (fourth_part args.t.now args.x.d c.turn_three-turned.result args.rcon c.substituted.result
-          c.requires c.turn_three-turned.ensures c.substituted.ensures);
+          (fourth_part args.t.now args.x.d c.turn.result args.rcon c.substituted.result
+          c.requires c.turn.ensures (rw c.alike.ensures at c.substituted.ensures));
       second = refl;
       third = refl;
       fourth = refl;

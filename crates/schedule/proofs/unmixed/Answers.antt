@@ -1,4 +1,4 @@
--- `schedule::unmixed` meets its promise.
+-- The S-box undoes the substitution that the table's shares begin with.
 use Rattle.schedule.proofs.InverseLaws.{unmixed_key}
 use Rattle.rounds.proofs.WayLaws.{shares_back}
 use Rattle.schedule.proofs.unmixed.Goals as goal
@@ -9,4 +9,4 @@ returns c =
     let x = c.substituted-x in
     unmixed_key args.s.now args.t.now args.k x.result c.shared.result c.requires.table
     (shares_back args.t.now c.requires.table_2)
-    x.ensures c.shared.ensures
+    (rw c.alike.ensures at x.ensures) (rw c.alike-2.ensures at c.shared.ensures)

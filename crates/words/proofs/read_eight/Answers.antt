@@ -1,9 +1,7 @@
--- A word of eight bytes is its two halves.
+-- The eight bytes, each by its worth.
 use Rattle.std.proofs.Common.{arith}
-use Rattle.words.proofs.Halves.{little_halves}
+use Rattle.words.proofs.Words.{little_eight}
 use Rattle.words.proofs.read_eight.Goals as goal
 
 pub returns : goal.returns
-returns c =
-    let e = little_halves c.args.at 4 4 c.args.s.now (omega arith) in
-    omega (arith, e)
+returns c = omega (arith, little_eight c.args.at c.args.s.now c.requires, c.from_le_bytes.ensures)

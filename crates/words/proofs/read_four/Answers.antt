@@ -1,9 +1,8 @@
--- A word of four bytes is its two halves.
+-- The four bytes, each by its worth.
 use Rattle.std.proofs.Common.{arith}
-use Rattle.words.proofs.Halves.{little_halves}
+use Rattle.words.proofs.Words.{little_four}
 use Rattle.words.proofs.read_four.Goals as goal
 
 pub returns : goal.returns
 returns c =
-    let e = little_halves c.args.at 2 2 c.args.s.now (omega arith) in
-    (omega (arith, e), omega arith)
+    (omega (arith, little_four c.args.at c.args.s.now c.requires, c.from_le_bytes.ensures), c.from_le_bytes.type_inv)

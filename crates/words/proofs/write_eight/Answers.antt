@@ -1,9 +1,9 @@
--- The lower half is put, then the upper.
-use Rattle.std.proofs.Common.{arith}
-use Rattle.words.proofs.Halves.{little_bytes_halves}
+-- The bytes that are copied are those of the word.
+use Rattle.std.proofs.Common.{arith, ◌∙◌}
+use Rattle.words.proofs.Words.{le_bytes-written}
 use Rattle.words.proofs.write_eight.Goals as goal
 
 pub returns : goal.returns
 returns c =
-    little_bytes_halves c.args.at 4 4 c.args.v c.args.s.now _ _ (omega arith) c.write_four.ensures
-    c.write_four-2.ensures
+    le_bytes-written c.args.at 8 _ c.args.v c.args.s.now _ (omega arith)
+    (c.copy_from_slice.ensures.after ∙ c.to_le_bytes.ensures)

@@ -1,10 +1,6 @@
--- `read` ends: each turn passes a line; a line's number is at most the bytes passed.
-use Rattle.std.proofs.Common.{◌≤◌, ◌+◌, ◌-◌, length}
-use Rattle.board_file.specs.Boards.{Within}
+-- `read` counts the lines, of which each has a byte of the text.
+use Rattle.std.proofs.Common.{◌≡◌, ◌+◌, ◌≤◌, length}
 use Rattle.board_file.proofs.board.read.Given as goal
 
-abbrev pub invariant-loop-at : goal.invariant-loop-at
-invariant-loop-at l = (l.at ≤ length l.text + 1) × (l.b.line ≤ l.at) × (l.b.line ≤ length l.text) × (Within l.b)
-
-abbrev pub decreases-loop-at : goal.decreases-loop-at
-decreases-loop-at l = length l.text + 1 - l.at
+abbrev pub invariant-loop-line : goal.invariant-loop-line
+invariant-loop-line l = (l.last ≡ l.line-iterator.passed) × (l.line-iterator.passed + length l.line-iterator.rest.now ≤ length l.text)

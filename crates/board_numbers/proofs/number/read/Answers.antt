@@ -1,47 +1,22 @@
 -- `read` gives the number of a word, by its first letters.
-use Rattle.std.proofs.Common.{ap, ◌∙◌, le-ltb, lt-ltb, eq-eqb, ne_eqb}
-use Rattle.board_numbers.specs.Digits.{value_of, number_of}
-use Rattle.board_numbers.proofs.DigitLaws.{tail_is}
+use Rattle.std.proofs.Common.{rules, arith}
+use Rattle.board_numbers.proofs.DigitLaws.{number_minus, number_register, number_hex, number_plain}
 use Rattle.board_numbers.proofs.number.read.Goals as goal
+use Rattle.board_numbers.proofs.number.read.Goals.{in_default-via-then-word-lt1, in_default-via-else-word-lt1+then-word-lt2+in_default-1, in_default-via-else-word-lt1+else-word-lt2+in-48+in_default-1, in_default-via-else-word-lt1+else-word-lt2+in_default-1}
 
-pub returns-then-word-lt2 : goal.returns-then-word-lt2
-unfolding number_of
-returns-then-word-lt2 c = λ e. simp (lt-ltb _ _ c.if-word-lt2.true) (c.digits.ensures e)
+pub returns-in_ok-digits-in-48 : goal.returns-in_ok-digits-in-48
+returns-in_ok-digits-in-48 c = search (rules, arith, number_hex)
 
-pub returns-then-word-eq45 : goal.returns-then-word-eq45
-unfolding number_of
-returns-then-word-eq45 c =
-    λ e. simp (le-ltb _ _ c.if-word-lt2.false, eq-eqb _ _ c.if-word-eq45.true)
-    (rw (← (c.digits-then-word-eq45.ensures (c.negated.ensures e).0
-    ∙ ap (value_of 10) (tail_is 1 c.args.word.now))) (c.negated.ensures e).1)
+pub returns-in_ok-register-in-114 : goal.returns-in_ok-register-in-114
+returns-in_ok-register-in-114 c = search (rules, arith, number_register)
 
-pub returns-then-word-eq114 : goal.returns-then-word-eq114
-unfolding number_of
-returns-then-word-eq114 c =
-    λ e. simp (
-      le-ltb _ _ c.if-word-lt2.false,
-      ne_eqb _ _ c.if-word-eq45.false,
-      eq-eqb _ _ c.if-word-eq114.true,
-    ) ((c.register.ensures e).1
-    ∙ c.digits-then-word-eq114.ensures (c.register.ensures e).0
-    ∙ ap (value_of 10) (tail_is 1 c.args.word.now))
+pub returns-in_ok-negated-in-45 : goal.returns-in_ok-negated-in-45
+returns-in_ok-negated-in-45 c = search (rules, arith, number_minus)
 
-pub returns-then-word-eq48 : goal.returns-then-word-eq48
-unfolding number_of
-returns-then-word-eq48 c =
-    λ e. simp (
-      le-ltb _ _ c.if-word-lt2.false,
-      ne_eqb _ _ c.if-word-eq45.false,
-      ne_eqb _ _ c.if-word-eq114.false,
-      eq-eqb _ _ c.if-word-eq48.true,
-    ) (c.after_zero.ensures e)
-
-pub returns : goal.returns
-unfolding number_of
-returns c =
-    λ e. simp (
-      le-ltb _ _ c.if-word-lt2.false,
-      ne_eqb _ _ c.if-word-eq45.false,
-      ne_eqb _ _ c.if-word-eq114.false,
-      ne_eqb _ _ c.if-word-eq48.false,
-    ) (c.digits-2.ensures e)
+pub returns-in_ok-digits-in_default : goal.returns-in_ok-digits-in_default
+returns-in_ok-digits-in_default c = elim c.in_default.branch [
+  | in_default-via-then-word-lt1 w ↦ grind (arith, number_plain)
+  | in_default-via-else-word-lt1+then-word-lt2+in_default-1 w ↦ grind (arith, number_plain)
+  | in_default-via-else-word-lt1+else-word-lt2+in-48+in_default-1 w ↦ grind (arith, number_plain)
+  | in_default-via-else-word-lt1+else-word-lt2+in_default-1 w ↦ grind (arith, number_plain)
+]

@@ -1,20 +1,23 @@
 -- `host::answer::refusal` meets its promise.
-use Prim.Native.Nat.{ℕ}
-use mathlib.Core.Bool.{not, ◌||◌}
-use mathlib.Core.List.{[], ◌∷◌}
-use mathlib.Core.Path.{ap, ap₂, ◌∙◌}
-use lib.Dec.{eqb, ltb}
-use Rattle.instructions.specs.Rules.{first_of}
+use Rattle.std.proofs.lemmas.Result.{err_from_is_err_and}
 use Rattle.instructions.specs.Record.{reg}
 use Rattle.instructions.specs.Refusals.{or_else, record_flaws}
 use Rattle.host.specs.Outcome.{lowest}
+use Rattle.host.proofs.Refusing.{stops}
 use Rattle.host.proofs.answer.refusal.Goals as goal
 
+pub returns-in_err-lent : goal.returns-in_err-lent
+unfolding lowest
+returns-in_err-lent c =
+    let p = err_from_is_err_and c.from_residual.result c.from_residual.ensures.1 in
+    rw (p.1, p.2, ← c.in_err-lent.ensures) (stops _ _)
+
+pub returns-in_err-record : goal.returns-in_err-record
+unfolding lowest or_else record_flaws reg
+returns-in_err-record c =
+    let p = err_from_is_err_and c.from_residual-in_err-record.result c.from_residual-in_err-record.ensures.1 in
+    rw (p.1, p.2, ← c.in_ok-lent.ensures, ← c.in_err-record.ensures) (stops _ _)
+
 pub returns : goal.returns
-unfolding lowest record_flaws reg
-returns c =
-    let a = c.args in
-    let flaw : ℕ → ℕ = λ x. first_of ((not (eqb x 0) || ltb 2 a.p.special.mode, 105) ∷ []) in
-    c.or_else-2.ensures ∙ ap₂ or_else c.lent-a.ensures (c.or_else.ensures
-    ∙ ap (λ (x : ℕ). or_else x a.own) (c.record-b.ensures
-    ∙ ap flaw c.zeroth.ensures))
+unfolding lowest or_else record_flaws reg
+returns c = rw (← c.in_ok-lent.ensures, ← c.in_ok-record.ensures)

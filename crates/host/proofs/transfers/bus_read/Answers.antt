@@ -1,35 +1,28 @@
 -- `host::transfers::bus_read` meets its promise.
-use Rattle.host.proofs.Accepting.{transfer_asks, same_record, asked_leaves}
-use Rattle.instructions.specs.Refusals.{buffer_flaws}
+use Rattle.std.proofs.Common.{refl}
 use Rattle.model.specs.Requests as asks
-use Rattle.machine.specs.Lent.{handed}
-use Rattle.host.proofs.Refusing.{Judged, judged, refused_leaves}
+use Rattle.instructions.specs.Refusals.{buffer_flaws}
 use Rattle.instructions.specs.Calls.{bus_read, buffer_of, call_flaws, accepted, replied}
-use mathlib.Core.Path.{refl}
+use Rattle.machine.specs.Lent.{given}
+use Rattle.host.proofs.Refusing.{refused_leaves, accepts}
+use Rattle.host.proofs.Accepting.{transfer_asks, same_record, asked_leaves}
 use Rattle.host.proofs.transfers.bus_read.Goals as goal
 
-pub returns-then-no-ne0 : goal.returns-then-no-ne0
+pub returns-in-Err-clause-leaves : goal.returns-in-Err-clause-leaves
 unfolding buffer_of call_flaws buffer_flaws
-returns-then-no-ne0 c =
-    let a = c.args in
-    let j : Judged (bus_read a.n a.line.now) (handed a.p a.mem.now a.macs.now a.cache.now a.dir.now) c.refusal-no.result =
-    judged c.transfer-own.ensures c.refusal-no.ensures in
-    refused_leaves j c.if-no-ne0.true c.refused.ensures refl
+returns-in-Err-clause-leaves c =
+    refused_leaves _ _ c.transfer-own.ensures c.refusal_on.ensures c.in-Err.is c.refused.ensures refl
 
-pub read-k-requires : goal.read-k-requires
+pub read-requires : goal.read-requires
 unfolding call_flaws buffer_flaws
-read-k-requires c =
-    let a = c.args in
-    let j : Judged (bus_read a.n a.line.now) (handed a.p a.mem.now a.macs.now a.cache.now a.dir.now) c.refusal-no.result =
-    judged c.transfer-own.ensures c.refusal-no.ensures in
-    let asked = transfer_asks j c.if-no-ne0.false a.n 64 a.line.now refl in
-    record { fit = asked.0; n_in_bounds = asked.1 }
+read-requires c =
+    let j = accepts (bus_read c.args.n c.args.line.now) (given c.args.p c.args.buffers.now) c.transfer-own.ensures c.refusal_on.ensures c.in_default.is in
+    let asked = transfer_asks j c.args.n 64 c.args.line.now refl in
+    rw c.drk.ensures (record { fit = asked.0; n_in_bounds = asked.1 })
 
-pub returns : goal.returns
+pub returns-clause-leaves : goal.returns-clause-leaves
 unfolding accepted replied call_flaws buffer_flaws
-returns c =
-    let a = c.args in
-    let j : Judged (bus_read a.n a.line.now) (handed a.p a.mem.now a.macs.now a.cache.now a.dir.now) c.refusal-no.result =
-    judged c.transfer-own.ensures c.refusal-no.ensures in
-    asked_leaves j c.if-no-ne0.false c.done.ensures
-    (same_record a.p) (asks.bus_read a.n) (replied a.line.now) refl c.read-k.ensures
+returns-clause-leaves c =
+    let j = accepts (bus_read c.args.n c.args.line.now) (given c.args.p c.args.buffers.now) c.transfer-own.ensures c.refusal_on.ensures c.in_default.is in
+    asked_leaves j c.done.ensures (same_record c.args.p) (asks.bus_read c.args.n) (replied c.args.line.now) refl
+    (rw c.drk.ensures at c.read.ensures.handles)

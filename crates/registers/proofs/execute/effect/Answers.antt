@@ -1,51 +1,40 @@
 -- `registers::execute::effect` meets its promise.
-use Rattle.std.proofs.Common.{refl, arith, rules}
+use Rattle.std.proofs.Common.{rules}
 use Rattle.sealing.specs.Lines.{drk_of}
-use Rattle.registers.proofs.ByOpcode.{read, effect-at, effect-none}
+use Rattle.instructions.specs.Record.{reg}
+use Rattle.instructions.specs.Operations.{Ra, Rb, effect}
+use Rattle.registers.specs.Effects.{next_key}
+use Rattle.registers.proofs.Executing.{changed}
 use Rattle.registers.proofs.execute.effect.Goals as goal
 
-pub returns-in-13 : goal.returns-in-13
-returns-in-13 c =
-    let R = read c.opcode-op.ensures.0 c.word_a-a.ensures c.word_b-b.ensures in
-    effect-at _ _ _ R 13 c.in-13.is c.epc_set.ensures refl refl
+pub returns-in-Some-EpcSet : goal.returns-in-Some-EpcSet
+unfolding effect next_key Ra Rb reg drk_of
+returns-in-Some-EpcSet c = changed c.epc_set.ensures (search rules) (search rules)
 
-pub returns-in-15 : goal.returns-in-15
-returns-in-15 c =
-    let R = read c.opcode-op.ensures.0 c.word_a-a.ensures c.word_b-b.ensures in
-    effect-at _ _ _ R 15 c.in-15.is c.ids_set.ensures refl refl
+pub returns-in-Some-CtxSet : goal.returns-in-Some-CtxSet
+unfolding effect next_key Ra Rb reg drk_of
+returns-in-Some-CtxSet c = changed c.ids_set.ensures (search rules) (search rules)
 
-pub returns-in-32 : goal.returns-in-32
-unfolding drk_of
-returns-in-32 c =
-    let R = read c.opcode-op.ensures.0 c.word_a-a.ensures c.word_b-b.ensures in
-    effect-at _ _ _ R 32 c.in-32.is c.drk_set.ensures refl refl
+pub returns-in-Some-DrkSet : goal.returns-in-Some-DrkSet
+unfolding effect next_key Ra Rb reg drk_of
+returns-in-Some-DrkSet c = changed c.drk_set.ensures (search rules) (search rules)
 
-pub returns-in-33 : goal.returns-in-33
-returns-in-33 c =
-    let R = read c.opcode-op.ensures.0 c.word_a-a.ensures c.word_b-b.ensures in
-    effect-at _ _ _ R 33 c.in-33.is c.drk_lock.ensures refl refl
+pub returns-in-Some-DrkLock : goal.returns-in-Some-DrkLock
+unfolding effect next_key Ra Rb reg drk_of
+returns-in-Some-DrkLock c = changed c.drk_lock.ensures (search rules) (search rules)
 
-pub returns-in-34 : goal.returns-in-34
-returns-in-34 c =
-    let R = read c.opcode-op.ensures.0 c.word_a-a.ensures c.word_b-b.ensures in
-    effect-at _ _ _ R 34 c.in-34.is c.drk_derive.ensures refl refl
+pub returns-in-Some-DrkDerive : goal.returns-in-Some-DrkDerive
+unfolding effect next_key Ra Rb reg drk_of
+returns-in-Some-DrkDerive c = changed c.drk_derive.ensures (search rules) (search rules)
 
-pub returns-in-35 : goal.returns-in-35
-returns-in-35 c =
-    let R = read c.opcode-op.ensures.0 c.word_a-a.ensures c.word_b-b.ensures in
-    effect-at _ _ _ R 35 c.in-35.is c.srh_get.ensures refl refl
+pub returns-in-Some-SrhGet : goal.returns-in-Some-SrhGet
+unfolding effect next_key Ra Rb reg drk_of
+returns-in-Some-SrhGet c = changed c.srh_get.ensures (search rules) (search rules)
 
-pub returns-in-36 : goal.returns-in-36
-returns-in-36 c =
-    let R = read c.opcode-op.ensures.0 c.word_a-a.ensures c.word_b-b.ensures in
-    effect-at _ _ _ R 36 c.in-36.is c.srh_set.ensures refl refl
+pub returns-in-Some-SrhSet : goal.returns-in-Some-SrhSet
+unfolding effect next_key Ra Rb reg drk_of
+returns-in-Some-SrhSet c = changed c.srh_set.ensures (search rules) (search rules)
 
-pub returns-in-37 : goal.returns-in-37
-returns-in-37 c =
-    let R = read c.opcode-op.ensures.0 c.word_a-a.ensures c.word_b-b.ensures in
-    effect-at _ _ _ R 37 c.in-37.is c.gr_get.ensures refl refl
-
-pub returns-in_default : goal.returns-in_default
-returns-in_default c =
-    let R = read c.opcode-op.ensures.0 c.word_a-a.ensures c.word_b-b.ensures in
-    effect-none _ _ _ R (λ e. omega arith) (search rules)
+pub returns-in-Some-GrGet : goal.returns-in-Some-GrGet
+unfolding effect next_key Ra Rb reg drk_of
+returns-in-Some-GrGet c = changed c.gr_get.ensures (search rules) (search rules)

@@ -2,6 +2,5 @@
 use Rattle.sheets.proofs.Starting.{cold-gives}
 use Rattle.sheets.proofs.running.cold.Goals as goal
 
-pub returns : goal.returns
-returns c =
-    cold-gives _ _ _ _ _ _ c.power_cut.ensures c.run.ensures
+pub returns-clause-gives : goal.returns-clause-gives
+returns-clause-gives c = cold-gives _ _ _ _ _ _ c.power_cut.ensures.leaves c.run.ensures.leaves

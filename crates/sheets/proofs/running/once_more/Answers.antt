@@ -1,18 +1,17 @@
 -- `sheets::running::once_more` meets its promise.
+use Rattle.std.proofs.Common.{true}
 use Rattle.host.specs.Outcome.{Leaves}
 use Rattle.sheets.proofs.Saying.{orderly-counts, says}
-use mathlib.Core.Bool.{true}
 use Rattle.sheets.proofs.running.once_more.Goals as goal
 
-pub filled_in-filled-requires : goal.filled_in-filled-requires
+pub of-requires : goal.of-requires
 unfolding Leaves
-filled_in-filled-requires c =
-    orderly-counts c.run-x.ensures
+of-requires c = orderly-counts c.run-x.ensures.leaves
 
-pub returns : goal.returns
+pub returns-clause-says : goal.returns-clause-says
 unfolding Leaves
-returns c =
-    record {
-      says = says c.run-x.ensures true _ c.filled_in-filled.ensures;
-      dir_value = c.run-x.ensures.left;
-    }
+returns-clause-says c = says c.run-x.ensures.leaves true _ c.of.ensures
+
+pub returns-clause-left : goal.returns-clause-left
+unfolding Leaves
+returns-clause-left c = c.run-x.ensures.leaves.left

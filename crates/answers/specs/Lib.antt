@@ -1,0 +1,2 @@
+-- What `answers` means.
+pub mod Numbers

@@ -1,0 +1,2 @@
+-- What is said once stays within its bounds.
+pub mod Said

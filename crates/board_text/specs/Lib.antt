@@ -1,0 +1,2 @@
+-- How the lines of a text follow one another.
+pub mod Steps

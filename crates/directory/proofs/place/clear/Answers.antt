@@ -1,8 +1,0 @@
--- `directory::place::clear` meets its promise.
-use Rattle.std.proofs.Common.{refl}
-use Rattle.directory.specs.Direct.{direct}
-use Rattle.directory.proofs.place.clear.Goals as goal
-
-pub returns : goal.returns
-unfolding direct
-returns c = refl

@@ -1,8 +1,0 @@
--- `directory::place::touch` meets its promise.
-use Rattle.std.proofs.Common.{refl}
-use Rattle.directory.specs.Direct.{direct}
-use Rattle.directory.proofs.place.touch.Goals as goal
-
-pub returns : goal.returns
-unfolding direct
-returns c = refl

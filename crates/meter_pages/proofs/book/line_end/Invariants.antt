@@ -1,9 +1,0 @@
--- `line_end` stays within the text, and ends.
-use Rattle.std.proofs.Common.{◌≤◌, ◌-◌, length}
-use Rattle.meter_pages.proofs.book.line_end.Given as goal
-
-abbrev pub invariant-loop-at : goal.invariant-loop-at
-invariant-loop-at l = (l.from ≤ l.at) × (l.at ≤ length l.text)
-
-abbrev pub decreases-loop-at : goal.decreases-loop-at
-decreases-loop-at l = length l.text - l.at

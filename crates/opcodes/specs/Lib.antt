@@ -1,0 +1,2 @@
+-- What `opcodes` means.
+pub mod Numbers
