@@ -5,6 +5,8 @@ ghost use Rattle.std.specs.Prelude.{◌≡◌};
 ghost use Rattle.aes_standard.specs.Cipher.{cipher, inv_cipher};
 ghost use Rattle.aes_standard.specs.Schedule.{key_expansion};
 
+use columns::Columns;
+
 // KeyExpansion: the 44 words that encipher under a key.
 pub fn expand(key: &[u8; 16]) -> [u32; 44]
     ensures { result ≡ key_expansion key.now }
@@ -25,8 +27,8 @@ pub fn encipher(w: &[u32; 44], block: &[u8; 16]) -> [u8; 16]
 pub fn encipher_to(w: &[u32; 44], block: &[u8; 16], out: &mut [u8; 16])
     ensures { out.new ≡ cipher w.now block.now }
 {
-    let t = tables::mixed();
-    columns::store(ways::through(&t, &t, w, columns::columns_of(block)), out, 0);
+    let t = tables::mixed().entries;
+    columns::store(ways::through(&t, &t, w, Columns::from(block)), out, 0);
 }
 
 // InvCipher: a block under a key.
@@ -35,8 +37,8 @@ pub fn decipher(key: &[u8; 16], block: &[u8; 16]) -> [u8; 16]
 {
     let w = schedule::expand(key);
     let v = schedule::invert(&w);
-    let t = tables::unmixed();
-    let u = tables::inv_sbox();
-    let x = ways::through(&t, &u, &v, columns::flip(columns::columns_of(block)));
-    columns::bytes_of(columns::flip(x))
+    let t = tables::unmixed().entries;
+    let u = tables::inv_sbox().entries;
+    let x = ways::through(&t, &u, &v, columns::flip(Columns::from(block)));
+    columns::flip(x).into()
 }

@@ -97,6 +97,7 @@ impl fmt::Display for Fault {
 }
 
 // The number of a fault, and 0 where there is none.
+// Kept: 0 for none, as C's record of the report has it.
 pub fn number_of(fault: Option<Fault>) -> u64
     ensures { result ≡ fault_in fault }
 {

@@ -93,6 +93,7 @@ impl fmt::Display for Refusal {
 }
 
 // The number of a refusal, and 0 where there is none.
+// Kept: 0 for none, as C's calls of the depot answer it.
 pub fn number_of(answer: Result<(), Refusal>) -> u32
     ensures { result ≡ refusal_in answer }
 {

@@ -1,4 +1,5 @@
 // Lines dropped, on the record behind a reference: one line, or all of them.
+// Kept: the record and the four slices apart, and calls that are alike but for their names: C's interface.
 ghost use Rattle.std.specs.Prelude.{[]};
 ghost use Rattle.instructions.specs.Calls.{evict_line, write_back_all};
 ghost use Rattle.machine.specs.Lent.{before, after};

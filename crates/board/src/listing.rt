@@ -1,4 +1,5 @@
 // The listing: a lent row of line records, one per slot, is filled from the directory.
+// Kept: the record and the four slices apart: C's interface.
 ghost use Rattle.machine.specs.Lent.{handed};
 ghost use Rattle.board.specs.Listed.{Lists};
 

@@ -1,4 +1,5 @@
 // Reboot and power cut, on the record behind a reference.
+// Kept: the record and the four slices apart, and calls that are alike but for their names: C's interface.
 ghost use Rattle.std.specs.Prelude.{[]};
 ghost use Rattle.instructions.specs.Calls.{reboot, power_cut};
 ghost use Rattle.machine.specs.Lent.{before, after};

@@ -1,4 +1,5 @@
 // The depot: lines signed, sealed and opened in their buffers, under a given DRK (two words, high first) and address.
+// Kept: a DRK in two words, and a refusal as a number, 0 for none: C's interface.
 ghost use Rattle.std.specs.Prelude.{◌≡◌, []};
 ghost use Rattle.instructions.specs.Depot.{depot_sign, depot_seal, depot_open};
 ghost use Rattle.sealing.specs.Lines.{drk_of};

@@ -1,4 +1,5 @@
 // The bus, on the record behind a reference: a line read or written, a MAC entry written; each first evicts that line.
+// Kept: the record and the four slices apart, and calls that are alike but for their names: C's interface.
 ghost use Rattle.instructions.specs.Calls.{bus_read, bus_write, bus_mac};
 ghost use Rattle.machine.specs.Lent.{before, after};
 ghost use Rattle.host.specs.Outcome.{Leaves};

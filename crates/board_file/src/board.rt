@@ -66,7 +66,7 @@ fn say<T: Copy>(place: &mut Option<T>, value: Result<T, FileError>) -> Result<()
 }
 
 // What a text has said of its board so far.
-#[derive(Clone, Copy)]
+#[derive(Clone, Copy, Debug, PartialEq, Eq)]
 struct Draft {
     memory: Option<usize>,
     slots: Option<usize>,

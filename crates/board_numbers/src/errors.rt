@@ -36,7 +36,7 @@ impl FileError {
     }
 
     // The error's name and a sentence that says when it comes.
-    pub fn sentence(self) -> &'static str {
+    fn sentence(self) -> &'static str {
         match self {
             FileError::UnknownWord => {
                 "unknown-word: the line begins with no statement and no instruction"

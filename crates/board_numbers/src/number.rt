@@ -6,6 +6,7 @@ ghost use Rattle.board_numbers.specs.Numbers.{said_by};
 use crate::errors::FileError;
 
 // A number that was read: a plain one, or a register's.
+// Kept: a u64 for a register too, as `value` answers both alike; a u8 says no more than that of the 32 there are.
 #[derive(Clone, Copy, Debug, PartialEq, Eq)]
 pub enum Number {
     Plain(u64),

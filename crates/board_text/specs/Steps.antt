@@ -1,5 +1,5 @@
 -- How the lines of a text follow one another.
-use Rattle.std.specs.Prelude.{◌+◌, ◌<◌, ◌≡◌, [], length, Option, MatchOption}
+use Rattle.std.specs.Prelude.{◌+◌, ◌-◌, ◌<◌, ◌≡◌, [], drop, length, Option, MatchOption}
 use Rattle.board_text.specs.declared.lines.Line.{Line}
 use Rattle.board_text.specs.declared.lines.Lines.{Lines}
 
@@ -7,4 +7,5 @@ use Rattle.board_text.specs.declared.lines.Lines.{Lines}
 abbrev pub Steps : Lines → Option Line → Lines → Type 0
 Steps s r t = MatchOption r
     ((s.rest.now ≡ []) × (t ≡ s))
-    (λ line. (line.number ≡ t.passed) × (t.passed ≡ s.passed + 1) × (length t.rest.now < length s.rest.now))
+    (λ line. (line.number ≡ t.passed) × (t.passed ≡ s.passed + 1) × (length t.rest.now < length s.rest.now)
+    × (t.rest.now ≡ drop (length s.rest.now - length t.rest.now) s.rest.now))

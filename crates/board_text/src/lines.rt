@@ -10,7 +10,7 @@ pub struct Line<'a> {
 }
 
 // What is left of a text, and how many lines came before; a line's end is '\n' or the text's.
-#[derive(Clone, Copy)]
+#[derive(Clone, Copy, Debug, PartialEq, Eq)]
 pub struct Lines<'a> {
     pub rest: &'a [u8],
     pub passed: u64,

@@ -6,7 +6,7 @@ use opcodes::opcode::Opcode;
 
 // At least and at most so many numbers, of which so many first ones are registers and the others are not; the numbers
 // from `words` on, where that is said, have 32 bits.
-#[derive(Clone, Copy)]
+#[derive(Clone, Copy, Debug, PartialEq, Eq)]
 pub(crate) struct Shape {
     least: usize,
     most: usize,

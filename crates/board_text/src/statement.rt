@@ -10,7 +10,7 @@ use board_numbers::number;
 use board_numbers::number::Number;
 
 // A statement: its kind, and the numbers behind its word.
-#[derive(Drop)]
+#[derive(Debug, Drop, PartialEq, Eq)]
 pub struct Statement {
     pub kind: Kind,
     pub numbers: ArrayVec<Number, 17>,

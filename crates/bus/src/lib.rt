@@ -37,6 +37,7 @@ pub fn read(drk: Drk, buffers: &mut Buffers, n: usize, line: &mut [u8]) -> Count
 }
 
 // A buffer of 64 bytes goes to line n of memory.
+// Kept: beside `write_mac`, since one for both would take the area, the size and the request, and is no plainer.
 pub fn write(drk: Drk, buffers: &mut Buffers, n: usize, line: &[u8]) -> Counts
     requires fit { Fit (memory_in drk buffers.old) }
     requires n_in_bounds { (n < length buffers.old.mem.now / 64) × (length line.now ≡ 64) }

@@ -2,9 +2,6 @@
 #![tactic(auto)]
 
 ghost use Rattle.std.specs.Prelude.{◌≡◌, ◌+◌, ◌≤◌, length};
-ghost use Rattle.field.specs.Field.{inv_sub_byte};
-ghost use Rattle.field.specs.Mixing.{mixed_entry, unmixed_entry};
-ghost use Rattle.field.specs.Table.{Table};
 ghost use Rattle.lists.specs.Parts.{part_at};
 ghost use Rattle.aes_standard.specs.State.{plus};
 ghost use Rattle.aes_standard.specs.Cipher.{cipher};
@@ -14,28 +11,41 @@ ghost use Rattle.chain.specs.Equivalent.{unlinked, eq_decrypt};
 ghost use Rattle.columns.specs.Words.{block_of};
 
 use columns::Columns;
+use tables::{InvMixColumns, InvSubBytes, MixColumns};
 
 // A block at place k added to the block before and enciphered.
-fn link(t: &[u32; 256], w: &[u32; 44], before: Columns, b: &[u8], k: usize) -> Columns
-    requires table { Table 256 mixed_entry t.now }
-    requires k_in_bounds { k + 16 ≤ length b.now }
+fn link(t: &MixColumns, w: &[u32; 44], before: Columns, b: &[u8], k: usize) -> Columns
+    requires { k + 16 ≤ length b.now }
     ensures { block_of result
         ≡ cipher w.now (plus (block_of before) (part_at k 16 b.now)) }
 {
-    let x = columns::plus(before, columns::columns_at(b, k));
-    ways::through(t, t, w, x)
+    let x = before ^ columns::columns_at(b, k);
+    ways::through(&t.entries, &t.entries, w, x)
 }
 
 // The block at place k, deciphered and added to the block before, takes its own place.
-fn unlink(t: &[u32; 256], u: &[u32; 256], v: &[u32; 44], before: Columns, b: &mut [u8], k: usize)
-    requires table { Table 256 unmixed_entry t.now }
-    requires table_2 { Table 256 inv_sub_byte u.now }
-    requires k_in_bounds { k + 16 ≤ length b.old }
+fn unlink(
+    t: &InvMixColumns,
+    u: &InvSubBytes,
+    v: &[u32; 44],
+    before: Columns,
+    b: &mut [u8],
+    k: usize,
+)
+    requires { k + 16 ≤ length b.old }
     ensures { b.new ≡ unlinked v.now (block_of before) k b.old }
 {
-    let x = ways::through(t, u, v, columns::flip(columns::columns_at(b, k)));
-    columns::store(columns::plus(columns::flip(x), before), b, k);
+    let x = ways::through(
+        &t.entries,
+        &u.entries,
+        v,
+        columns::flip(columns::columns_at(b, k)),
+    );
+    columns::store(columns::flip(x) ^ before, b, k);
 }
+
+// Kept: `absorb`, `encrypt` and `unchain` each go over the blocks by themselves. One loop with the step as a closure
+// would be no plainer: the first has nothing to lay down, the third keeps the old block, and each has its own invariant.
 
 // The last block of the chain over all whole blocks of b, after the block before.
 pub fn absorb(w: &[u32; 44], before: &[u8; 16], b: &[u8]) -> [u8; 16]
@@ -46,11 +56,11 @@ pub fn absorb(w: &[u32; 44], before: &[u8; 16], b: &[u8]) -> [u8; 16]
         return *before;
     }
     let t = tables::mixed();
-    let mut x = columns::columns_of(before);
+    let mut x = Columns::from(before);
     for i in 0..n {
         x = link(&t, w, x, b, i * 16);
     }
-    columns::bytes_of(x)
+    x.into()
 }
 
 // CBC encryption of all whole blocks of b, in place.
@@ -59,7 +69,7 @@ pub fn encrypt(w: &[u32; 44], iv: &[u8; 16], b: &mut [u8])
 {
     let t = tables::mixed();
     let n = b.len() / 16;
-    let mut x = columns::columns_of(iv);
+    let mut x = Columns::from(iv);
     for i in 0..n {
         x = link(&t, w, x, b, i * 16);
         columns::store(x, b, i * 16);
@@ -83,7 +93,7 @@ fn unchain(v: &[u32; 44], iv: &[u8; 16], b: &mut [u8])
     let t = tables::unmixed();
     let u = tables::inv_sbox();
     let n = b.len() / 16;
-    let mut x = columns::columns_of(iv);
+    let mut x = Columns::from(iv);
     for i in 0..n {
         let c = columns::columns_at(b, i * 16);
         unlink(&t, &u, v, x, b, i * 16);

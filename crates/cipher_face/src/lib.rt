@@ -1,5 +1,6 @@
 // The ciphers for programs in C: `aes`, `chain`, `cmac` and `sealing` under plain names that begin with hq_, for tests
 // and benchmarks beside other ciphers.
+// Kept: a DRK in two words, and calls that are alike but for a size: C's interface.
 #![tactic(auto)]
 
 ghost use Rattle.std.specs.Prelude.{◌≡◌};

@@ -6,11 +6,14 @@ ghost use Rattle.aes_standard.specs.State.{plus};
 ghost use Rattle.cmac.specs.Subkeys.{doubled, subkey1, subkey2};
 ghost use Rattle.cmac.specs.Cmac.{Before, cmac, last_block};
 
-// The sum of two blocks, by columns: as numbers of 128 digits a MAC would take some 4 in 100 longer.
+use columns::Columns;
+
+// The sum of two blocks.
+// Kept: by columns, since as numbers of 128 digits a MAC takes up to 1.06 of the time.
 fn sum(a: &[u8; 16], b: &[u8; 16]) -> [u8; 16]
     ensures { result ≡ plus a.now b.now }
 {
-    columns::bytes_of(columns::plus(columns::columns_of(a), columns::columns_of(b)))
+    (Columns::from(a) ^ Columns::from(b)).into()
 }
 
 // The next subkey: a block shifted as one number, with 87 added where its first digit was set.

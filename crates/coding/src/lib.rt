@@ -7,6 +7,7 @@ ghost use Rattle.coding.specs.Words.{Fields, Named};
 use board_numbers::errors::FileError;
 
 // The fields of document 01 in their places: opcode, a, b and the low 16 bits.
+// Kept: the opcode is a number, as `encode` has it.
 fn packed(op: u64, a: u64, b: u64, low: u64) -> u64
     ensures { Fields (op % 64) (a % 32) (b % 32) (low % 65536) result }
 {

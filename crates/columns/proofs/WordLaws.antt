@@ -2,14 +2,14 @@
 use mathlib.Core.Path.{◌≡◌, sym, ap, ap₂, ◌∙◌}
 use mathlib.Core.List.{List, [], ◌∷◌}
 use Prim.Native.Nat.{ℕ, zero, suc, ◌+◌, ◌-◌, ◌*◌, ◌/◌, ◌%◌, ◌^◌, ◌<◌}
-use native.Mathlib.Nat.{add-zero, add_assoc, div-div-eq-div-mul}
+use native.Mathlib.Nat.{div-div-eq-div-mul}
 use native.Mathlib.Omega.{arith}
 use Rattle.field.specs.Field.{◌⊕◌}
 use Rattle.field.specs.Mixing.{word}
 use Rattle.aes_standard.specs.State.{at, state, byte_of}
 use Rattle.aes_standard.specs.Schedule.{key_word}
 use Rattle.columns.specs.declared.Columns.{Columns}
-use Rattle.columns.specs.Words.{Bytes, WordAt, Loaded, turned, four_words, block_of}
+use Rattle.columns.specs.Words.{Bytes, Loaded, turned, four_words, block_of}
 use Rattle.std.specs.Int.{rotate_right, w32}
 use Rattle.std.specs.Int.Bits.{bit_or, or_self}
 use Rattle.std.proofs.lemmas.Nat.{or_comm, or_shifted}
@@ -94,31 +94,6 @@ four_bytes p q r s i =
     p.byte0 i ∷ p.byte1 i ∷ p.byte2 i ∷ p.byte3 i ∷ q.byte0 i ∷ q.byte1 i ∷ q.byte2 i ∷ q.byte3 i
     ∷ r.byte0 i ∷ r.byte1 i ∷ r.byte2 i ∷ r.byte3 i ∷ s.byte0 i ∷ s.byte1 i ∷ s.byte2 i
     ∷ s.byte3 i ∷ []
-
--- the bytes of a word that stands at place k + j, by places counted from k
-word_at_bytes : (l : List ℕ) (k j w : ℕ) → WordAt l (k + j) w
-    → Bytes w (at l (k + j)) (at l (k + (j + 1))) (at l (k + (j + 2))) (at l (k + (j + 3)))
-word_at_bytes l k j w h =
-    record {
-      byte0 = h.byte0;
-      byte1 = h.byte1 ∙ ap (at l) (add_assoc k j 1);
-      byte2 = h.byte2 ∙ ap (at l) (add_assoc k j 2);
-      byte3 = h.byte3 ∙ ap (at l) (add_assoc k j 3);
-    }
-
--- the block of the four words that stand from place k on
-pub loaded_at : (l : List ℕ) (k a b c d : ℕ) → WordAt l k a → WordAt l (k + 4) b → WordAt l (k + 8) c
-    → WordAt l (k + 12) d
-    → four_words a b c d ≡ state (λ i. at l (k + i))
-loaded_at l k a b c d e f g h =
-    four_bytes (record {
-      byte0 = e.byte0
-          ∙ ap (at l) (sym (add-zero k));
-      byte1 = e.byte1;
-      byte2 = e.byte2;
-      byte3 = e.byte3;
-    })
-    (word_at_bytes l k 4 b f) (word_at_bytes l k 8 c g) (word_at_bytes l k 12 d h)
 
 -- the columns of a block are its words
 pub loaded : (b : List ℕ) (x : Columns) → x.a < 2 ^ 32 → x.b < 2 ^ 32 → x.c < 2 ^ 32 → x.d < 2 ^ 32

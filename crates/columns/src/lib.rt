@@ -7,6 +7,8 @@ ghost use Rattle.field.specs.Field.{◌⊕◌};
 ghost use Rattle.aes_standard.specs.State.{at, state, byte_of};
 ghost use Rattle.columns.specs.Words.{WordAt, changed, Word, Loaded, turned, block_of, four_set};
 
+use std::ops::BitXor;
+
 // The four columns of a state, the first row in the highest byte of each word.
 #[derive(Clone, Copy, Debug, PartialEq, Eq)]
 pub struct Columns {
@@ -33,30 +35,12 @@ pub fn turn<const N: u32>(x: u32) -> u32
 }
 
 // The word of the four bytes that stand from place k on.
+// Kept: beside `texts::word_at` of eight bytes; one for both sizes would ask `from_be_bytes` here, which is slower.
 pub fn word_at(b: &[u8], k: usize) -> u32
     requires { k + 4 ≤ length b.now }
     ensures { WordAt b.now k result }
 {
     word_of(b[k], b[k + 1], b[k + 2], b[k + 3])
-}
-
-// The columns of a block of sixteen bytes.
-pub fn columns_of(b: &[u8; 16]) -> Columns
-    ensures { Loaded b.now result }
-{
-    columns_at(b, 0)
-}
-
-// The sum of two states.
-pub fn plus(x: Columns, y: Columns) -> Columns
-    ensures { block_of result ≡ state (λ i. at (block_of x) i ⊕ at (block_of y) i) }
-{
-    Columns {
-        a: x.a ^ y.a,
-        b: x.b ^ y.b,
-        c: x.c ^ y.c,
-        d: x.d ^ y.d,
-    }
 }
 
 // The columns of the sixteen bytes that stand from place k on.
@@ -103,11 +87,38 @@ pub fn store(x: Columns, b: &mut [u8], k: usize)
     put_word(x.d, b, k + 12);
 }
 
+// The columns of a block of sixteen bytes.
+impl From<&[u8; 16]> for Columns {
+    ghost from_gives = { λ b x. Loaded b.now x };
+
+    fn from(block: &[u8; 16]) -> Columns {
+        columns_at(block, 0)
+    }
+}
+
 // The sixteen bytes of a block's columns.
-pub fn bytes_of(x: Columns) -> [u8; 16]
-    ensures { result ≡ block_of x }
-{
-    let mut r = [0u8; 16];
-    store(x, &mut r, 0);
-    r
+impl From<Columns> for [u8; 16] {
+    ghost from_gives = { λ x b. b ≡ block_of x };
+
+    fn from(x: Columns) -> [u8; 16] {
+        let mut block = [0u8; 16];
+        store(x, &mut block, 0);
+        block
+    }
+}
+
+// The sum of two states.
+impl BitXor for Columns {
+    type Output = Columns;
+
+    ghost bitxor_gives = { λ x y z. block_of z ≡ state (λ i. at (block_of x) i ⊕ at (block_of y) i) };
+
+    fn bitxor(self, y: Columns) -> Columns {
+        Columns {
+            a: self.a ^ y.a,
+            b: self.b ^ y.b,
+            c: self.c ^ y.c,
+            d: self.d ^ y.d,
+        }
+    }
 }

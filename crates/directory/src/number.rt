@@ -1,4 +1,6 @@
 // A directory number: its fields, what it says of a line, and how it is made.
+// Kept: a number is a bare word, as C lends the directory; a type of its own would be put on and taken off at each look,
+// and is no plainer.
 #![tactic(auto, unfolding(crate::specs::Numbers::entry_of, crate::specs::Numbers::used_of, crate::specs::Numbers::tag_of, crate::specs::Numbers::dirty_of, crate::specs::Numbers::line_of, model::specs::Cached::holds))]
 
 ghost use Rattle.std.specs.Prelude.{◌≡◌, true, ◌<◌, ◌≤◌};

@@ -9,6 +9,7 @@ ghost use Rattle.answers.specs.Numbers.{refusal_in};
 use answers::refusals::Refusal;
 
 // 105 where R0 is not zero or the mode is above 2.
+// Kept: a mode is a number, as C's record has it.
 pub fn record(zeroth: u64, mode: u8) -> Result<(), Refusal>
     ensures { refusal_in result ≡ first_of ((not (eqb zeroth 0) || ltb 2 mode, 105) ∷ []) }
 {

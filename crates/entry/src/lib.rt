@@ -15,6 +15,7 @@ use answers::refusals::Refusal;
 
 // The lowest of 101 to 104 that applies to buffers of these lengths and a directory, where one does.
 #[tactic(auto, using(answers::proofs::Laws::refusal_some, std::proofs::lemmas::Bool::Decides::nat_tests), unfolding(instructions::specs::Refusals::memory_flaws, instructions::specs::Refusals::size_fine))]
+// Kept: lengths and not the buffers as one, since C lends a listing shared slices.
 pub fn lent(mem: usize, macs: usize, cache: usize, dir: &[u32]) -> Result<(), Refusal>
     ensures { refusal_in result ≡ first_of (memory_flaws mem macs ++ cache_flaws document_board mem cache dir.now) }
 {

@@ -107,15 +107,22 @@ in_order {call} {l} j =
     (lent_none document_board aes_cipher call (machine_in l) j.none.number refl)
 
 -- a refusal leaves everything as it was lent
-pub refused_leaves : (call : Call) (l : Lent) {buffer : List ℕ} {own : ℕ} {refusal : Result (Unit {0}) Refusal}
+pub refused_leaves : {call : Call} {l : Lent} {buffer : List ℕ} {no : ℕ} {a : Answer}
+    → Judged call l no → (no ≡ 0 → ⊥) → Answers l.processor no no_counts a → buffer ≡ buffer_of call
+    → Leaves call l a.report buffer
+    (record { processor = a.processor; mem = l.mem; macs = l.macs; cache = l.cache; dir = l.dir })
+unfolding Leaves result_of refused counts counts_of
+refused_leaves {call} {l} j wrong A b =
+    let r = A.report' in
+    rw (refused-is document_board aes_cipher call (machine_in l) j.number wrong, A.record')
+    (record { answered = r.answered; stepped = r.stepped; counted = r.counted; later = b; left = refl })
+
+-- the same where the refusal is one by name
+pub refusal-leaves : (call : Call) (l : Lent) {buffer : List ℕ} {own : ℕ} {refusal : Result (Unit {0}) Refusal}
     {e : Refusal} {a : Answer} → own ≡ first_of (call_flaws (length l.mem) call)
     → refusal_in refusal ≡ lowest l.processor (length l.mem) (length l.macs) (length l.cache) l.dir own
     → refusal ≡ Err e → Answers l.processor (refusal_number e) no_counts a → buffer ≡ buffer_of call
     → Leaves call l a.report buffer
     (record { processor = a.processor; mem = l.mem; macs = l.macs; cache = l.cache; dir = l.dir })
-unfolding Leaves result_of refused counts counts_of
-refused_leaves call l {e = e} own_is no-is is A b =
-    let r = A.report' in
-    let j : Judged call l (refusal_number e) = judged own_is (rw is at no-is) in
-    rw (refused-is document_board aes_cipher call (machine_in l) j.number (some_number e), A.record')
-    (record { answered = r.answered; stepped = r.stepped; counted = r.counted; later = b; left = refl })
+refusal-leaves call l {e = e} own_is no-is is A b =
+    refused_leaves (judged {call = call} {l = l} {no = refusal_number e} own_is (rw is at no-is)) (some_number e) A b

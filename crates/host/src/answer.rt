@@ -13,6 +13,7 @@ pub use machine::answer::{Answer, Report};
 use registers::record::Processor;
 
 // The report of a call that has no steps.
+// Kept: n is a number, as C's record of the report has it.
 fn report(n: u32, k: Counts) -> Report
     ensures { Reports n (counts_in k) result }
 {
@@ -24,6 +25,7 @@ fn report(n: u32, k: Counts) -> Report
 }
 
 // The report of a call that counts nothing.
+// Kept: n is a number, as C's record of the report has it.
 pub fn uncounted(n: u32) -> Report
     ensures { Reports n no_counts result }
 {

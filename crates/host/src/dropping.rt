@@ -1,4 +1,6 @@
 // Lines dropped: one line, or all of them.
+// Kept: the head of each call is one `if let`; a head that takes the work as a closure would take each work's `requires`
+// too, and is no plainer.
 ghost use Rattle.std.specs.Prelude.{[]};
 ghost use Rattle.instructions.specs.Calls.{evict_line, write_back_all};
 ghost use Rattle.cache.specs.Held.{SameBuffers};

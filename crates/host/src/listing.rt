@@ -14,6 +14,7 @@ use directory::number;
 use registers::record::Processor;
 
 // A record of the row: used (1) or empty (0), line, tag, dirty (1) or clean (0).
+// Kept: numbers for the tag and for yes and no: C's record.
 #[repr(C)]
 #[derive(Clone, Copy, Debug, PartialEq, Eq)]
 pub struct LineRecord {
@@ -24,6 +25,7 @@ pub struct LineRecord {
 }
 
 // The refusal of a listing into a row of so many records, where there is one.
+// Kept: the four buffers apart, since C lends a listing shared slices.
 pub fn refusal(
     p: Processor,
     mem: &[u8],

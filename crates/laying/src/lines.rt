@@ -10,7 +10,7 @@ use opcodes::opcode::Opcode;
 use sealing::Drk;
 
 // The room that is left of the line opened last: where the next word goes, up to `end`, so many bytes at a time.
-#[derive(Clone, Copy)]
+#[derive(Clone, Copy, Debug, PartialEq, Eq)]
 struct Room {
     at: usize,
     end: usize,

@@ -3,6 +3,7 @@ use cache::slots::Counts;
 use registers::record::Processor;
 
 // The answer, run's steps and the four counts.
+// Kept: the answer is document 01's number, 0 for none: C's record.
 #[repr(C)]
 #[derive(Clone, Copy, Debug, PartialEq, Eq)]
 pub struct Report {
@@ -13,7 +14,7 @@ pub struct Report {
 
 // The record after the call, and its report.
 #[repr(C)]
-#[derive(Clone, Copy)]
+#[derive(Clone, Copy, Debug, PartialEq, Eq)]
 pub struct Answer {
     pub processor: Processor,
     pub report: Report,

@@ -24,7 +24,7 @@ use registers::decide::Wish;
 use sealing::Drk;
 
 // What came of it: the number that stood there, none where the line's check failed, and what was counted.
-#[derive(Clone, Copy)]
+#[derive(Clone, Copy, Debug, PartialEq, Eq)]
 pub struct Found {
     pub number: Option<u64>,
     pub counts: Counts,

@@ -1,6 +1,5 @@
 // Run: at most n instructions, up to the first that faults.
 ghost use Rattle.std.specs.Prelude.{◌≡◌, ◌≤◌, length};
-ghost use Rattle.instructions.specs.Board.{opcode_table};
 ghost use Rattle.answers.specs.Numbers.{fault_in};
 ghost use Rattle.registers.specs.Map.{drk_held};
 ghost use Rattle.cache.specs.Lent.{counts_in, Fit};
@@ -17,7 +16,7 @@ use registers::record::Special;
 
 // The fault that ended it, where one did, the steps that were done, the registers after them but R0 to R31, and what was
 // counted.
-#[derive(Clone, Copy)]
+#[derive(Clone, Copy, Debug, PartialEq, Eq)]
 pub struct Ran {
     pub fault: Option<Fault>,
     pub steps: u64,
@@ -25,9 +24,8 @@ pub struct Ran {
     pub counts: Counts,
 }
 
-// At most n instructions, by a table of opcodes that is lent.
-pub fn steps(t: &[u8; 64], r: &mut [u64; 32], q: Special, buffers: &mut Buffers, n: u64) -> Ran
-    requires t_value { t.now ≡ opcode_table }
+// Run at most n instructions. The registers are lent, so that a call copies them in and out once.
+pub fn run(r: &mut [u64; 32], q: Special, buffers: &mut Buffers, n: u64) -> Ran
     requires in_bounds { (128 ≤ length buffers.old.mem.now) × (length buffers.old.dir.now ≤ 64)
         × (n ≤ 10000) }
     requires fit { Fit (memory_in (drk_held q) buffers.old) }
@@ -38,7 +36,7 @@ pub fn steps(t: &[u8; 64], r: &mut [u64; 32], q: Special, buffers: &mut Buffers,
     let mut special = q;
     let mut counts = slots::none();
     for i in 0..n {
-        let x = step::step(t, r, special, buffers);
+        let x = step::step(r, special, buffers);
         special = x.special;
         counts = slots::add(counts, x.counts);
         if x.fault.is_some() {
@@ -56,28 +54,4 @@ pub fn steps(t: &[u8; 64], r: &mut [u64; 32], q: Special, buffers: &mut Buffers,
         special,
         counts,
     }
-}
-
-// For each opcode: 0 it does not exist, 1 it exists, 2 it exists and needs active mode.
-//
-// Kept: numbers, since `opcode_table` of the meaning, which `decide` asks for, has these.
-const OPCODES: [u8; 64] = [
-    0, 1, 1, 1, 1, 1, 1, 1, 1, 1, 1, 1, 1, 1, 1, 1, 1, 0, 0, 0, 0, 0, 0, 0, 0, 0, 0, 0, 0, 0, 0, 0,
-    1, 1, 2, 2, 2, 2, 2, 1, 2, 2, 2, 1, 0, 0, 0, 0, 0, 0, 0, 0, 0, 0, 0, 0, 0, 0, 0, 0, 0, 0, 0, 0,
-];
-
-// Run at most n instructions. The registers are lent, so that a call copies them in and out once.
-//
-// Kept: a copy of the table, since with `&OPCODES` a warm step takes 1.06 of its time.
-#[tactic(auto, unfolding(instructions::specs::Board::opcode_table))]
-pub fn run(r: &mut [u64; 32], q: Special, buffers: &mut Buffers, n: u64) -> Ran
-    requires in_bounds { (128 ≤ length buffers.old.mem.now) × (length buffers.old.dir.now ≤ 64)
-        × (n ≤ 10000) }
-    requires fit { Fit (memory_in (drk_held q) buffers.old) }
-    ensures same { SameBuffers buffers.old buffers.new }
-    ensures runs { Runs n (machine_on r.old q buffers.old) (fault_in result.fault) result.steps
-        (counts_in result.counts) (machine_on r.new result.special buffers.new) }
-{
-    let t = OPCODES;
-    steps(&t, r, q, buffers, n)
 }

@@ -1,6 +1,5 @@
 // One instruction: fetch, decode, data access, effect.
 ghost use Rattle.std.specs.Prelude.{◌≡◌, ◌≤◌, length};
-ghost use Rattle.instructions.specs.Board.{opcode_table};
 ghost use Rattle.answers.specs.Numbers.{fault_in};
 ghost use Rattle.registers.specs.Map.{drk_held};
 ghost use Rattle.cache.specs.Lent.{counts_in, Fit};
@@ -17,15 +16,14 @@ use registers::record::Special;
 use registers::{decide, faults, finish};
 
 // The fault of a step, where it has one, the registers after it but R0 to R31, and what was counted.
-#[derive(Clone, Copy)]
+#[derive(Clone, Copy, Debug, PartialEq, Eq)]
 pub struct Stepped {
     pub fault: Option<Fault>,
     pub special: Special,
     pub counts: Counts,
 }
 
-pub fn step(t: &[u8; 64], r: &mut [u64; 32], q: Special, buffers: &mut Buffers) -> Stepped
-    requires t_value { t.now ≡ opcode_table }
+pub fn step(r: &mut [u64; 32], q: Special, buffers: &mut Buffers) -> Stepped
     requires in_bounds { 128 ≤ length buffers.old.mem.now }
     requires fit { Fit (memory_in (drk_held q) buffers.old) }
     ensures same { SameBuffers buffers.old buffers.new }
@@ -36,7 +34,7 @@ pub fn step(t: &[u8; 64], r: &mut [u64; 32], q: Special, buffers: &mut Buffers) 
     let drk = q.drk();
     let fetch = faults::fetch_fault(r, q, m);
     let got = phase::fetch(drk, buffers, fetch.err(), q.mode, q.pc);
-    let wish = decide::decide(t, r, q, m, fetch, got.number);
+    let wish = decide::decide(r, q, m, fetch, got.number);
     let data = phase::access(drk, buffers, wish.unwrap_or(Wish::Nothing));
     let counts = slots::add(got.counts, data.counts);
     let end = finish::finish(r, q, m, wish.err(), got.number, data.number);

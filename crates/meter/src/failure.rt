@@ -40,6 +40,7 @@ fn say_words(to: &impl Print, e: io::Error) -> io::Result<()> {
 
 impl Failure {
     // Says why there are no sheets of the file at a path, which may be no text.
+    // Kept: in pieces and no Display, since a path of bytes is written as it is.
     pub(crate) fn say(self, to: &impl Print, path: &[u8]) -> io::Result<()> {
         match self {
             Failure::Unopened(e) => {

@@ -7,24 +7,23 @@ mod script;
 mod sizes;
 
 ghost use Rattle.std.specs.Prelude.{◌≤◌, length};
-ghost use Rattle.board_file.specs.Boards.{Within};
 
 use board_file::board;
 use board_file::board::Board;
 use failure::Failure;
-use meter_options::Options;
+use meter_options::{Format, Options};
 use meter_pages::book::Run;
 use meter_pages::{book, printing, rows};
-use meter_runs::Later;
+use meter_runs::{BoardFile, Later};
 use sheets::running::Sheets;
 use std::io::Read;
 use std::rt::{Env, Files};
 use std::{fs, io};
 
 // Prints both sheets.
-fn both(to: &impl Print, b: &Board, s: &Sheets, csv: bool) -> io::Result<()> {
+fn both(to: &impl Print, b: &Board, s: &Sheets, format: Format) -> io::Result<()> {
     let sheets = [&s.cold, &s.warm];
-    if !csv {
+    if format == Format::Text {
         for sheet in sheets {
             printing::sheet(to, b, sheet)?;
         }
@@ -32,24 +31,22 @@ fn both(to: &impl Print, b: &Board, s: &Sheets, csv: bool) -> io::Result<()> {
     }
     rows::header(to)?;
     for sheet in sheets {
-        rows::row(to, Run::of(sheet), b.slots, sheet)?;
+        rows::row(to, Run::of(sheet).number(), b.slots, sheet)?;
     }
     rows::slot_header(to)?;
     for sheet in sheets {
-        rows::slots(to, Run::of(sheet), b.slots, sheet)?;
+        rows::slots(to, Run::of(sheet).number(), b.slots, sheet)?;
     }
     Ok(())
 }
 
 // Prints the sheet of a third run, with the cache kept but for a line that is dropped where that is asked for.
-fn third(to: &impl Print, text: &[u8], b: Board, o: Options) -> io::Result<()>
-    requires { Within b }
-{
-    let Later { dropped, sheet } = meter_runs::third(text, b, o.drop);
-    if o.csv {
+fn third(to: &impl Print, file: &BoardFile, o: Options) -> io::Result<()> {
+    let Later { dropped, sheet } = file.third(o.drop);
+    if o.format == Format::Csv {
         println!(to)?;
         rows::header(to)?;
-        return rows::row(to, Run::Kept, b.slots, &sheet);
+        return rows::row(to, Run::Kept.number(), file.board.slots, &sheet);
     }
     book::heading(to, Run::Kept)?;
     if let (Some(line), Some(report)) = (o.drop, dropped) {
@@ -58,22 +55,21 @@ fn third(to: &impl Print, text: &[u8], b: Board, o: Options) -> io::Result<()>
     } else {
         println!(to)?;
     }
-    printing::body(to, &b, &sheet)
+    printing::body(to, &file.board, &sheet)
 }
 
 // Prints what is asked for of a board.
-fn show(to: &impl Print, text: &[u8], b: Board, o: Options) -> io::Result<()>
-    requires { Within b }
-{
+// Kept: a branch for each switch of the command line; more than one may be given, and the first here counts.
+fn show(to: &impl Print, file: &BoardFile, o: Options) -> io::Result<()> {
     if o.sizes {
-        return sizes::all(to, text, b, o.csv);
+        return sizes::all(to, file, o.format);
     }
     if o.script {
-        return script::run(to, text, b);
+        return script::run(to, file);
     }
-    both(to, &b, &meter_runs::both(text, b, b.slots), o.csv)?;
+    both(to, &file.board, &file.both(file.board.slots), o.format)?;
     if o.keep || o.drop.is_some() {
-        third(to, text, b, o)?;
+        third(to, file, o)?;
     }
     Ok(())
 }
@@ -105,6 +101,7 @@ fn read_full(file: &mut impl Read, text: &mut [u8]) -> usize
 // Reads the board file at a path and prints what is asked for, or finds the text's first error.
 fn measure<R: Files>(rt: &R, to: &impl Print, path: &[u8], o: Options) -> Result<(), Failure> {
     let mut file = opened(rt, path).map_err(|e| Failure::Unopened(e))?;
+    // Kept: a buffer and a count; std's read_to_end allocates, and the meter has fixed memory.
     let mut text = [0u8; 65536];
     let n = read_full(&mut file, &mut text);
     drop(file);
@@ -112,9 +109,12 @@ fn measure<R: Files>(rt: &R, to: &impl Print, path: &[u8], o: Options) -> Result
         return Err(Failure::TooLong);
     }
     let text = &text[..n];
-    let b = board::read(text)?;
-    meter_runs::laid(text, b)?;
-    show(to, text, b, o)?;
+    let file = BoardFile {
+        text,
+        board: board::read(text)?,
+    };
+    file.laid()?;
+    show(to, &file, o)?;
     Ok(())
 }
 
@@ -129,6 +129,7 @@ fn main(rt: HostRuntime) -> io::Result<()> {
             );
         }
     };
+    // Kept: a buffer and a count; std's env::args allocates, and the meter has fixed memory.
     let mut path = [0u8; 4096];
     let n = rt.arg(command.path, &mut path).unwrap_or(0);
     let path = &path[..n];

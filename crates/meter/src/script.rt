@@ -1,13 +1,11 @@
 // The script of a board file: operations done in order on a board laid anew, with each answer and its counts.
-ghost use Rattle.board_file.specs.Boards.{Within};
-
-use board_file::board::Board;
 use board_text::lines::Line;
 use board_text::names::{Kind, Operation};
 use board_text::statement::Statement;
 use board_text::{lines, statement};
 use cache::buffers::Buffers;
 use meter_pages::printing;
+use meter_runs::BoardFile;
 use meter_runs::room::Room;
 use registers::record::Processor;
 use std::io;
@@ -20,10 +18,11 @@ fn behind(
     p: Processor,
     lent: &mut Buffers,
 ) -> io::Result<Processor> {
-    let Some(answer) = script_operations::done(to, operation, s, p, lent)? else {
+    if operation == Operation::List {
         printing::slots(to, lent.dir)?;
         return Ok(p);
-    };
+    }
+    let answer = script_operations::done(to, s, p, lent)?;
     print!(to; "    ")?;
     printing::report(to, answer.report)?;
     Ok(answer.processor)
@@ -37,10 +36,10 @@ fn announce(to: &impl Print, line: Line) -> io::Result<()> {
 }
 
 // Lays a board into lent buffers, as far as its lines can be, and does the operations of its text in order.
-fn session(to: &impl Print, text: &[u8], b: Board, lent: &mut Buffers) -> io::Result<()> {
-    let _ = laying::lines::load(text, b.drk, lent.mem, lent.macs);
-    let mut p = meter_runs::start(b);
-    for line in lines::of(text) {
+fn session(to: &impl Print, file: &BoardFile, lent: &mut Buffers) -> io::Result<()> {
+    let _ = laying::lines::load(file.text, file.board.drk, lent.mem, lent.macs);
+    let mut p = meter_runs::start(file.board);
+    for line in lines::of(file.text) {
         let Ok(Some(s)) = statement::read(line.text) else {
             continue;
         };
@@ -53,11 +52,9 @@ fn session(to: &impl Print, text: &[u8], b: Board, lent: &mut Buffers) -> io::Re
 }
 
 // Does a board's script on memory laid anew, with an empty cache.
-pub(crate) fn run(to: &impl Print, text: &[u8], b: Board) -> io::Result<()>
-    requires { Within b }
-{
+pub(crate) fn run(to: &impl Print, file: &BoardFile) -> io::Result<()> {
     println!(to; "SCRIPT: from the file anew, with an empty cache")?;
     let mut room = Room::empty();
-    let mut lent = room.lend(&b, b.slots);
-    session(to, text, b, &mut lent)
+    let mut lent = room.lend(&file.board, file.board.slots);
+    session(to, file, &mut lent)
 }

@@ -10,10 +10,18 @@ use std::error::Error;
 use std::fmt;
 use std::rt::Env;
 
+// How sheets are printed: as text for people, or as rows for programs.
+#[derive(Clone, Copy, Debug, Default, PartialEq, Eq)]
+pub enum Format {
+    #[default]
+    Text,
+    Csv,
+}
+
 // What is asked for of a board's file, and the line to drop before a third run, where one is.
 #[derive(Clone, Copy, Debug, Default, PartialEq, Eq)]
 pub struct Options {
-    pub csv: bool,
+    pub format: Format,
     pub sizes: bool,
     pub script: bool,
     pub keep: bool,
@@ -40,7 +48,7 @@ impl fmt::Display for Misused {
 impl Error for Misused {}
 
 // What the arguments read so far ask for, and whether the next one is the line to drop.
-#[derive(Clone, Copy, Default)]
+#[derive(Clone, Copy, Debug, Default, PartialEq, Eq)]
 struct Asked {
     path: Option<usize>,
     options: Options,
@@ -73,7 +81,7 @@ impl Asked {
     // Takes an argument that begins with a minus sign.
     fn take_switch(&mut self, word: &[u8]) -> Result<(), Misused> {
         match word {
-            b"--csv" => self.options.csv = true,
+            b"--csv" => self.options.format = Format::Csv,
             b"--sizes" => self.options.sizes = true,
             b"--script" => self.options.script = true,
             b"--keep" => self.options.keep = true,

@@ -2,6 +2,7 @@
 ghost use Rattle.std.specs.Prelude.{◌≡◌};
 ghost use Rattle.lists.specs.If.{if};
 ghost use Rattle.meter_pages.specs.declared.book.Run.TheVariants.{Cold, Warm};
+ghost use Rattle.meter_pages.specs.Runs.{run_number};
 
 use answers::faults::Fault;
 use answers::refusals::Refusal;
@@ -24,9 +25,19 @@ impl Run {
         if sheet.warm { Run::Warm } else { Run::Cold }
     }
 
+    // The run that a row says a sheet is of, by the number it is given: a warm sheet's third is the kept one.
+    pub(crate) fn numbered(run: u64, sheet: &Sheet) -> Run {
+        if sheet.warm && run == Run::Kept.number() {
+            return Run::Kept;
+        }
+        Run::of(sheet)
+    }
+
     // The run's number in a row.
-    pub(crate) fn number(self) -> u32 {
-        self as u32
+    pub fn number(self) -> u64
+        ensures { result ≡ run_number self }
+    {
+        self as u64
     }
 }
 
@@ -42,7 +53,7 @@ impl fmt::Display for Run {
 
 // What a call answered: no fault, a fault or a refusal, by number and name; nothing where a number has no name.
 // Kept: a number, as it stands in the report, a record for C.
-#[derive(Clone, Copy)]
+#[derive(Clone, Copy, Debug, PartialEq, Eq)]
 pub(crate) struct Answered(pub u64);
 
 impl fmt::Display for Answered {
@@ -66,7 +77,7 @@ impl fmt::Display for Answered {
 
 // A tag by its name; nothing where a number has none.
 // Kept: a number, as it stands in the listing's record, which is for C.
-#[derive(Clone, Copy)]
+#[derive(Clone, Copy, Debug, PartialEq, Eq)]
 pub(crate) struct Tagged(pub u32);
 
 impl fmt::Display for Tagged {
@@ -81,7 +92,7 @@ impl fmt::Display for Tagged {
 }
 
 // A number to the right of a column of ten; one of six digits or more behind a single blank.
-#[derive(Clone, Copy)]
+#[derive(Clone, Copy, Debug, PartialEq, Eq)]
 pub(crate) struct Column(pub u64);
 
 impl fmt::Display for Column {

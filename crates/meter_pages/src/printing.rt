@@ -10,7 +10,7 @@ use sheets::sheet::Sheet;
 use std::{fmt, io};
 
 // A figure of all lines, of ordinary and of protected ones.
-#[derive(Clone, Copy)]
+#[derive(Clone, Copy, Debug, PartialEq, Eq)]
 struct Figure {
     name: &'static str,
     all: u64,

@@ -14,8 +14,10 @@ pub fn header(to: &impl Print) -> io::Result<()> {
     )
 }
 
-// The sheet of a run as a row.
-pub fn row(to: &impl Print, run: Run, slots: usize, s: &Sheet) -> io::Result<()> {
+// A sheet as a row of a run, 1, 2 or 3.
+// Kept: the run is a number, since a row says whatever number it is given (what may not change: rows::row and rows::slots).
+pub fn row(to: &impl Print, run: u64, slots: usize, s: &Sheet) -> io::Result<()> {
+    let named = Run::numbered(run, s);
     let x = s.report;
     let Counts {
         filled,
@@ -29,7 +31,7 @@ pub fn row(to: &impl Print, run: Run, slots: usize, s: &Sheet) -> io::Result<()>
         ordinarywritten,
         protectedwritten,
     } = s.kinds;
-    print!(to; "{},{run},{slots},{},{}", run.number(), x.steps, x.answer)?;
+    print!(to; "{run},{named},{slots},{},{}", x.steps, x.answer)?;
     print!(to; ",{filled},{written},{checked},{made}")?;
     println!(to; ",{ordinaryfilled},{protectedfilled},{ordinarywritten},{protectedwritten}")
 }
@@ -40,20 +42,21 @@ pub fn slot_header(to: &impl Print) -> io::Result<()> {
 }
 
 // A slot as a row.
-fn slot(to: &impl Print, run: Run, i: usize, x: LineRecord) -> io::Result<()> {
+fn slot(to: &impl Print, run: u64, named: Run, i: usize, x: LineRecord) -> io::Result<()> {
     let LineRecord {
         used,
         line,
         tag,
         dirty,
     } = x;
-    println!(to; "{},{run},{i},{used},{line},{tag},{dirty}", run.number())
+    println!(to; "{run},{named},{i},{used},{line},{tag},{dirty}")
 }
 
 // The first slots of a sheet as rows.
-pub fn slots(to: &impl Print, run: Run, n: usize, s: &Sheet) -> io::Result<()> {
+pub fn slots(to: &impl Print, run: u64, n: usize, s: &Sheet) -> io::Result<()> {
+    let named = Run::numbered(run, s);
     for i in 0..n.min(64) {
-        slot(to, run, i, listing::row_at(&s.slots, i))?;
+        slot(to, run, named, i, listing::row_at(&s.slots, i))?;
     }
     Ok(())
 }

@@ -19,8 +19,16 @@ use sheets::running;
 use sheets::running::Sheets;
 use sheets::sheet::Sheet;
 
+// A board's file: its text, and the board that it says, whose sizes document 01 allows.
+#[derive(Clone, Copy, Debug, PartialEq, Eq)]
+pub struct BoardFile<'a> {
+    pub text: &'a [u8],
+    pub board: Board,
+    ghost within: { Within board },
+}
+
 // A run with the cache kept, and what dropping a line before it reported.
-#[derive(Clone, Copy)]
+#[derive(Clone, Copy, Debug, PartialEq, Eq)]
 pub struct Later {
     pub dropped: Option<Report>,
     pub sheet: Sheet,
@@ -44,51 +52,50 @@ pub fn start(b: Board) -> Processor {
     }
 }
 
-// The error of laying a board's lines, where there is one.
-pub fn laid(text: &[u8], b: Board) -> Result<(), Misread>
-    requires { Within b }
-{
-    let mut room = Room::empty();
-    let Buffers { mem, macs, .. } = room.lend(&b, 0);
-    lines::load(text, b.drk, mem, macs)
-}
+// Kept: `laid`, `both` and `third` are alike in two lines, the room and what is lent of it; a function that takes the
+// step behind them as a closure is longer than those.
+impl BoardFile<'_> {
+    // The error of laying the board's lines, where there is one.
+    pub fn laid(&self) -> Result<(), Misread> {
+        let mut room = Room::empty();
+        let Buffers { mem, macs, .. } = room.lend(&self.board, 0);
+        lines::load(self.text, self.board.drk, mem, macs)
+    }
 
-// The cold and the warm sheet of a board that is laid into lent buffers, as far as its lines can be.
-fn both_on(text: &[u8], b: Board, lent: &mut Buffers) -> Sheets {
-    let _ = lines::load(text, b.drk, lent.mem, lent.macs);
-    running::both(start(b), lent, b.steps)
-}
+    // The cold and the warm sheet of the board that is laid into lent buffers, as far as its lines can be.
+    fn both_on(&self, lent: &mut Buffers) -> Sheets {
+        let _ = lines::load(self.text, self.board.drk, lent.mem, lent.macs);
+        running::both(start(self.board), lent, self.board.steps)
+    }
 
-// The cold and the warm sheet of a board with so many slots.
-pub fn both(text: &[u8], b: Board, slots: usize) -> Sheets
-    requires within { Within b }
-    requires slots_bound { slots ≤ 64 }
-{
-    let mut room = Room::empty();
-    let mut lent = room.lend(&b, slots);
-    both_on(text, b, &mut lent)
+    // The cold and the warm sheet with so many slots.
+    pub fn both(&self, slots: usize) -> Sheets
+        requires { slots ≤ 64 }
+    {
+        let mut room = Room::empty();
+        let mut lent = room.lend(&self.board, slots);
+        self.both_on(&mut lent)
+    }
+
+    // One run more from a record, with the cache as it is.
+    fn once_more(&self, left: Processor, lent: &mut Buffers) -> Sheet {
+        let again = running::again(start(self.board), left);
+        running::once_more(again, lent, self.board.steps).sheet
+    }
+
+    // The sheet of a third run, with the cache as the warm run left it but for a line that is dropped where that is
+    // asked for; a line past memory drops nothing.
+    pub fn third(&self, line: Option<u64>) -> Later {
+        let mut room = Room::empty();
+        let mut lent = room.lend(&self.board, self.board.slots);
+        let left = self.both_on(&mut lent).processor;
+        let dropped = line.map(|line| drop_line(left, line, &mut lent));
+        let sheet = self.once_more(left, &mut lent);
+        Later { dropped, sheet }
+    }
 }
 
 // What dropping a line reports.
 fn drop_line(left: Processor, line: u64, lent: &mut Buffers) -> Report {
     dropping::evict_line(left, lent, line).report
-}
-
-// One run more from a record, with the cache as it is.
-fn once_more(b: Board, left: Processor, lent: &mut Buffers) -> Sheet {
-    let again = running::again(start(b), left);
-    running::once_more(again, lent, b.steps).sheet
-}
-
-// The sheet of a third run, with the cache as the warm run left it but for a line that is dropped where that is asked
-// for; a line past memory drops nothing.
-pub fn third(text: &[u8], b: Board, line: Option<u64>) -> Later
-    requires { Within b }
-{
-    let mut room = Room::empty();
-    let mut lent = room.lend(&b, b.slots);
-    let left = both_on(text, b, &mut lent).processor;
-    let dropped = line.map(|line| drop_line(left, line, &mut lent));
-    let sheet = once_more(b, left, &mut lent);
-    Later { dropped, sheet }
 }

@@ -7,7 +7,7 @@ use board_file::board::Board;
 use cache::buffers::Buffers;
 
 // Room for the largest board, and for the largest cache.
-#[derive(Drop)]
+#[derive(Debug, Drop, PartialEq, Eq)]
 pub struct Room {
     pub mem: [u8; 65536],
     pub macs: [u8; 16384],
@@ -17,6 +17,7 @@ pub struct Room {
 
 impl Room {
     // Room with nothing in it.
+    // Kept: no derived Default, since docs/PROMISES.md names it, and its promise `IsEmpty` with the edit room_is_not_empty.
     pub fn empty() -> Room
         ensures { IsEmpty result }
     {

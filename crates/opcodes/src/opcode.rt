@@ -1,5 +1,6 @@
 // An instruction by its opcode.
-ghost use Rattle.std.specs.Prelude.{◌≡◌};
+ghost use Rattle.std.specs.Prelude.{◌≡◌, get_or, eqb};
+ghost use Rattle.instructions.specs.Board.{opcode_table};
 ghost use Rattle.opcodes.specs.Numbers.{opcode_number, opcode_named};
 
 // The instructions, by document 01's opcodes.
@@ -71,5 +72,23 @@ impl Opcode {
             43 => Some(Opcode::BeginCemU),
             _ => None,
         }
+    }
+
+    // Does the instruction need active mode, by document 01's table?
+    #[tactic(auto, unfolding(instructions::specs::Board::opcode_table))]
+    pub fn needs_active(self) -> bool
+        ensures { result ≡ eqb (get_or opcode_table (opcode_number self) 0) 2 }
+    {
+        matches!(
+            self,
+            Opcode::DrkDerive
+                | Opcode::SrhGet
+                | Opcode::SrhSet
+                | Opcode::GrGet
+                | Opcode::GrSet
+                | Opcode::EndCem
+                | Opcode::SecureLoad
+                | Opcode::SecureStore
+        )
     }
 }

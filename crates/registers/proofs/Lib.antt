@@ -3,3 +3,4 @@ pub mod Decoding
 pub mod NextPc
 pub mod Suspending
 pub mod Executing
+pub mod ByOpcode

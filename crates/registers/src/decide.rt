@@ -1,7 +1,7 @@
 // What a step wants of the memory once its instruction was fetched.
 ghost use Rattle.std.specs.Prelude.{◌≡◌, ◌≤◌, true, false};
 ghost use Rattle.directory.specs.TagIn.{tag_in};
-ghost use Rattle.instructions.specs.Board.{document_board, opcode_table};
+ghost use Rattle.instructions.specs.Board.{document_board};
 ghost use Rattle.instructions.specs.Faults.{fetch_fault};
 ghost use Rattle.instructions.specs.Operations as o;
 ghost use Rattle.instructions.specs.Step.{wish_for};
@@ -63,7 +63,7 @@ fn want(r: &[u64; 32], q: Special, w: u64, a: u64) -> Wish
 {
     let x = fields::word_a(r, w);
     let y = fields::word_b(r, w);
-    match fields::opcode(w) {
+    match fields::instruction(w) {
         Some(Opcode::Load) => load(Tag::Ordinary, a),
         Some(Opcode::Store) => store(Tag::Ordinary, a, x),
         Some(Opcode::DrkSet) => Wish::NewKey(Drk { high: x, low: y }),
@@ -77,14 +77,12 @@ fn want(r: &[u64; 32], q: Special, w: u64, a: u64) -> Wish
 // line's check failed.
 #[tactic(auto, using(crate::proofs::Decoding::fault_number_some), unfolding(instructions::specs::Step::known_fault, instructions::specs::Step::data_wish))]
 pub fn decide(
-    t: &[u8; 64],
     r: &[u64; 32],
     q: Special,
     m: u64,
     fetch: Result<(), Fault>,
     fetched: Option<u64>,
 ) -> Result<Wish, Fault>
-    requires t_value { t.now ≡ opcode_table }
     requires fetch_value { fault_of fetch ≡ fetch_fault m (processor_of r.now q) }
     requires le_m { 8 ≤ m }
     ensures { Decides document_board aes_cipher m (key_of q) (processor_of r.now q) (got_in fetched)
@@ -93,6 +91,6 @@ pub fn decide(
     fetch?;
     let w = fetched.ok_or(Fault::CodeLineWrong)?;
     let a = faults::address(r, q, w);
-    faults::decode_fault(t, r, q, m, w, a)?;
+    faults::decode_fault(r, q, m, w, a)?;
     Ok(want(r, q, w, a))
 }

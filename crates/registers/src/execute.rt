@@ -18,7 +18,7 @@ pub fn has_value(w: u64) -> bool
     ensures { result ≡ o.has_value w }
 {
     matches!(
-        fields::opcode(w),
+        fields::instruction(w),
         Some(
             Opcode::Add
                 | Opcode::Sub
@@ -43,7 +43,7 @@ pub fn value(r: &[u64; 32], q: Special, w: u64, loaded: u64) -> u64
 {
     let b = fields::word_b(r, w);
     let c = fields::word_c(r, w);
-    match fields::opcode(w) {
+    match fields::instruction(w) {
         Some(Opcode::Add) => fields::plus(b, c),
         Some(Opcode::Sub) => fields::minus(b, c),
         Some(Opcode::And) => b & c,
@@ -96,10 +96,11 @@ pub fn behind(pc: u64, concealed: bool) -> u64
 
 // The mode after the instruction.
 #[tactic(auto, unfolding(instructions::specs::Operations::next_mode))]
+// Kept: a mode is a number, as C's record has it.
 pub fn next_mode(r: &[u64; 32], q: Special, w: u64) -> u8
     ensures { result ≡ o.next_mode (processor_of r.now q) w }
 {
-    match fields::opcode(w) {
+    match fields::instruction(w) {
         Some(Opcode::BeginCemA) => 1,
         Some(Opcode::EndCem) => 0,
         _ => q.mode,
@@ -113,7 +114,7 @@ pub fn next_pc(r: &[u64; 32], q: Special, w: u64) -> u64
 {
     let a = fields::word_a(r, w);
     let b = fields::word_b(r, w);
-    match fields::opcode(w) {
+    match fields::instruction(w) {
         Some(Opcode::Jr) => a,
         Some(Opcode::Beq) if a == b => {
             let i = fields::imm(w);
@@ -132,7 +133,7 @@ fn effect(r: &[u64; 32], q: Special, w: u64) -> Special
 {
     let a = fields::word_a(r, w);
     let b = fields::word_b(r, w);
-    match fields::opcode(w) {
+    match fields::instruction(w) {
         Some(Opcode::EpcSet) => special::epc_set(q, a),
         Some(Opcode::CtxSet) => special::ids_set(q, a, b),
         Some(Opcode::DrkSet) => special::drk_set(q, a, b),
@@ -152,15 +153,16 @@ pub fn execute(r: &mut [u64; 32], q: Special, w: u64, loaded: u64) -> Special
         (next_key (key_of q) (processor_of r.old q) w) r.new result }
 {
     if has_value(w) {
-        let mut x = q;
         let v = value(r, q, w, loaded);
         let a = fields::field_a(w);
         set_register(r, a, v);
-        x.pc = behind(q.pc, q.mode == 1);
-        return x;
+        return Special {
+            pc: behind(q.pc, q.mode == 1),
+            ..q
+        };
     }
     let pc = next_pc(r, q, w);
-    if let Some(Opcode::Beq | Opcode::Jr | Opcode::Store) = fields::opcode(w) {
+    if let Some(Opcode::Beq | Opcode::Jr | Opcode::Store) = fields::instruction(w) {
         return Special { pc, ..q };
     }
     Special {

@@ -1,7 +1,7 @@
 // The faults that are known before the data access, in the order checked.
 ghost use Rattle.std.specs.Prelude.{◌≡◌, ◌≤◌};
 ghost use Rattle.instructions.specs.Rules.{first_of};
-ghost use Rattle.instructions.specs.Board.{document_board, opcode_table};
+ghost use Rattle.instructions.specs.Board.{document_board};
 ghost use Rattle.instructions.specs.Operations as o;
 ghost use Rattle.instructions.specs.Faults as s;
 ghost use Rattle.answers.specs.Numbers.{fault_of};
@@ -44,7 +44,7 @@ pub fn has_address(w: u64) -> bool
     ensures { result ≡ s.has_address w }
 {
     matches!(
-        fields::opcode(w),
+        fields::instruction(w),
         Some(Opcode::Load | Opcode::Store | Opcode::SecureLoad | Opcode::SecureStore)
     )
 }
@@ -55,7 +55,7 @@ fn sel_listed(w: u64) -> bool
     ensures { result ≡ s.sel_listed w }
 {
     let s = fields::sel(w);
-    match fields::opcode(w) {
+    match fields::instruction(w) {
         Some(Opcode::DrkSet) => s == 0,
         Some(Opcode::GrGet) => s == 0 || s == 2,
         Some(Opcode::GrSet) => s <= 3,
@@ -68,7 +68,7 @@ fn sel_listed(w: u64) -> bool
 fn thread_fault(r: &[u64; 32], q: Special, w: u64) -> Result<(), Fault>
     ensures { fault_of result ≡ first_of (s.thread_faults (processor_of r.now q) w) }
 {
-    match fields::opcode(w) {
+    match fields::instruction(w) {
         Some(Opcode::DrkSet) if q.lock => Err(Fault::DrkLocked),
         Some(Opcode::BeginCemA) if q.mode != 0 => Err(Fault::OutsideNormalMode),
         Some(Opcode::BeginCemU) => Err(Fault::NotOnThisProcessor),
@@ -78,16 +78,14 @@ fn thread_fault(r: &[u64; 32], q: Special, w: u64) -> Result<(), Fault>
 }
 
 // What decoding finds of the opcode: 11, 2, 1, 3, 7, and otherwise nothing.
-#[tactic(auto, unfolding(instructions::specs::Faults::opcode_faults, instructions::specs::Fields::exists, instructions::specs::Fields::needs_active, instructions::specs::Record::active, instructions::specs::Board::document_board))]
-fn opcode_fault(t: &[u8; 64], r: &[u64; 32], q: Special, w: u64) -> Result<(), Fault>
-    requires { t.now ≡ opcode_table }
+#[tactic(auto, using(crate::proofs::Decoding::opcode_undefined, crate::proofs::Decoding::opcode_exists, crate::proofs::Decoding::opcode_active), unfolding(instructions::specs::Faults::opcode_faults, instructions::specs::Record::active))]
+fn opcode_fault(r: &[u64; 32], q: Special, w: u64) -> Result<(), Fault>
     ensures { fault_of result ≡ first_of (s.opcode_faults document_board (processor_of r.now q) w) }
 {
-    let k = t[fields::number(w) as usize];
-    if k == 0 {
+    let Some(opcode) = fields::instruction(w) else {
         return Err(Fault::UndefinedOpcode);
-    }
-    if k == 2 && q.mode != 1 {
+    };
+    if q.mode != 1 && opcode.needs_active() {
         return Err(Fault::ActiveModeNeeded);
     }
     thread_fault(r, q, w)
@@ -114,19 +112,11 @@ fn address_fault(r: &[u64; 32], q: Special, m: u64, w: u64, a: u64) -> Result<()
 
 // What decoding finds: of the opcode, and then of the address.
 #[tactic(auto, using(crate::proofs::Decoding::decode_fault_opcode, crate::proofs::Decoding::decode_fault_address))]
-pub fn decode_fault(
-    t: &[u8; 64],
-    r: &[u64; 32],
-    q: Special,
-    m: u64,
-    w: u64,
-    a: u64,
-) -> Result<(), Fault>
-    requires t_value { t.now ≡ opcode_table }
+pub fn decode_fault(r: &[u64; 32], q: Special, m: u64, w: u64, a: u64) -> Result<(), Fault>
     requires a_value { a ≡ o.address document_board (processor_of r.now q) w }
     requires le_m { 8 ≤ m }
     ensures { fault_of result ≡ s.decode_fault document_board m (processor_of r.now q) w }
 {
-    opcode_fault(t, r, q, w)?;
+    opcode_fault(r, q, w)?;
     address_fault(r, q, m, w, a)
 }

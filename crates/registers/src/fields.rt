@@ -9,17 +9,17 @@ use opcodes::opcode::Opcode;
 
 // The opcode's number.
 #[tactic(auto, unfolding(instructions::specs::Fields::opcode))]
-pub(crate) fn number(w: u64) -> u64
+pub fn opcode(w: u64) -> u64
     ensures { (result ≡ f.opcode w) × (result < 64) }
 {
     w / 67108864 % 64
 }
 
 // The instruction, where its opcode has one.
-pub fn opcode(w: u64) -> Option<Opcode>
+pub fn instruction(w: u64) -> Option<Opcode>
     ensures { result ≡ opcode_named (f.opcode w) }
 {
-    Opcode::named(number(w))
+    Opcode::named(opcode(w))
 }
 
 // Register a.

@@ -19,7 +19,7 @@ use opcodes::opcode::Opcode;
 fn is_rfi(w: u64) -> bool
     ensures { result ≡ (f.opcode w == 16) }
 {
-    matches!(fields::opcode(w), Some(Opcode::Rfi))
+    matches!(fields::instruction(w), Some(Opcode::Rfi))
 }
 
 // The end of a step.

@@ -10,8 +10,9 @@ use sealing::Drk;
 
 // pc, EPC, cause, PID, CID, CEM_Mode, DRK_Lock, DRK, SRH, CEM_Buffer, Interrupt_Hash, Interrupt_Address, saved PID
 // and saved CID.
+// Kept: keys and buffers in words of their own, and the mode as a number: C's record.
 #[repr(C)]
-#[derive(Clone, Copy)]
+#[derive(Clone, Copy, Debug, PartialEq, Eq)]
 pub struct Special {
     pub pc: u64,
     pub epc: u64,
@@ -50,7 +51,7 @@ impl Special {
 
 // The whole record, with R0 to R31.
 #[repr(C)]
-#[derive(Clone, Copy)]
+#[derive(Clone, Copy, Debug, PartialEq, Eq)]
 pub struct Processor {
     pub r: [u64; 32],
     pub special: Special,
@@ -95,15 +96,16 @@ pub fn keeping(was: Processor, p: Processor) -> Processor
         (key_of was.special) result.r result.special }
 {
     let q = was.special;
-    let r = p.r;
-    let mut special = p.special;
-    special.drkhi = q.drkhi;
-    special.drklo = q.drklo;
-    special.srh0 = q.srh0;
-    special.srh1 = q.srh1;
-    special.srh2 = q.srh2;
-    special.srh3 = q.srh3;
-    Processor { r, special }
+    let special = Special {
+        drkhi: q.drkhi,
+        drklo: q.drklo,
+        srh0: q.srh0,
+        srh1: q.srh1,
+        srh2: q.srh2,
+        srh3: q.srh3,
+        ..p.special
+    };
+    Processor { special, ..p }
 }
 
 // What reboot and power cut leave of a record.

@@ -15,38 +15,36 @@ use crate::record::Special;
 pub fn epc_set(q: Special, a: u64) -> Special
     ensures { Changes (with_epc a) (key_of q) q result }
 {
-    let mut x = q;
-    x.epc = a;
-    x
+    Special { epc: a, ..q }
 }
 
 // PID is the low half of a, and CID the low quarter of b.
 pub fn ids_set(q: Special, a: u64, b: u64) -> Special
     ensures { Changes (with_ids (a % 2 ^ 32) (b % 2 ^ 16)) (key_of q) q result }
 {
-    let mut x = q;
-    x.pid = (a % 4294967296) as u32;
-    x.cid = (b % 65536) as u16;
-    x
+    Special {
+        pid: (a % 4294967296) as u32,
+        cid: (b % 65536) as u16,
+        ..q
+    }
 }
 
 // drk.set: the DRK is a then b, a high.
 pub fn drk_set(q: Special, a: u64, b: u64) -> Special
     ensures { Changes (λ p. p) (drk_of a b) q result }
 {
-    let mut x = q;
-    x.drkhi = a;
-    x.drklo = b;
-    x
+    Special {
+        drkhi: a,
+        drklo: b,
+        ..q
+    }
 }
 
 // drk.lock.
 pub fn drk_lock(q: Special) -> Special
     ensures { Changes (with_lock true) (key_of q) q result }
 {
-    let mut x = q;
-    x.lock = true;
-    x
+    Special { lock: true, ..q }
 }
 
 // drk.derive: words 1, 0 of CEM_Buffer are the MAC of a then b, words 3, 2 are 0.
@@ -54,37 +52,40 @@ pub fn drk_lock(q: Special) -> Special
 pub fn drk_derive(q: Special, a: u64, b: u64) -> Special
     ensures { Changes (with_buffer (o.derived aes_cipher (key_of q) a b)) (key_of q) q result }
 {
-    let mut x = q;
     let m = q.drk().derive(a, b);
-    x.word0 = texts::word_at(&m, 8);
-    x.word1 = texts::word_at(&m, 0);
-    x.word2 = 0;
-    x.word3 = 0;
-    x
+    Special {
+        word0: texts::word_at(&m, 8),
+        word1: texts::word_at(&m, 0),
+        word2: 0,
+        word3: 0,
+        ..q
+    }
 }
 
 // srh.get: CEM_Buffer is the SRH.
 pub fn srh_get(q: Special) -> Special
     ensures { Changes (λ p. with_buffer p.cem.srh p) (key_of q) q result }
 {
-    let mut x = q;
-    x.word0 = q.srh0;
-    x.word1 = q.srh1;
-    x.word2 = q.srh2;
-    x.word3 = q.srh3;
-    x
+    Special {
+        word0: q.srh0,
+        word1: q.srh1,
+        word2: q.srh2,
+        word3: q.srh3,
+        ..q
+    }
 }
 
 // srh.set: the SRH is CEM_Buffer.
 pub fn srh_set(q: Special) -> Special
     ensures { Changes (λ p. with_srh p.cem.buffer p) (key_of q) q result }
 {
-    let mut x = q;
-    x.srh0 = q.word0;
-    x.srh1 = q.word1;
-    x.srh2 = q.word2;
-    x.srh3 = q.word3;
-    x
+    Special {
+        srh0: q.word0,
+        srh1: q.word1,
+        srh2: q.word2,
+        srh3: q.word3,
+        ..q
+    }
 }
 
 // gr.get: word sel + 1 of CEM_Buffer is a, and word sel is b.

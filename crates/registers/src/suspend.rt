@@ -11,7 +11,7 @@ use crate::record::Special;
 use answers::faults::Fault;
 
 // The fault of a step, where it has one, and the registers after it.
-#[derive(Clone, Copy)]
+#[derive(Clone, Copy, Debug, PartialEq, Eq)]
 pub struct Ended {
     pub fault: Option<Fault>,
     pub special: Special,
@@ -26,27 +26,32 @@ fn replace(r: &mut [u64; 32], x: [u64; 32])
 
 // A fault or an interrupt: an active thread is suspended; then EPC = pc, cause = number, pc = 64.
 #[tactic(auto, unfolding(instructions::specs::Suspend::entered, instructions::specs::Suspend::suspended, instructions::specs::Suspend::hash_of, instructions::specs::Suspend::hidden, instructions::specs::Record::active, instructions::specs::Board::document_board, ciphers::specs::Cipher::aes_cipher))]
+// Kept: n is a number, since an interrupt's 32 is no fault.
 pub fn enter(r: &mut [u64; 32], q: Special, n: u64) -> Special
     ensures { Holds (s.entered document_board aes_cipher (key_of q) n (processor_of r.old q))
         (key_of q) r.new result }
 {
-    let mut x = q;
-    x.epc = q.pc;
-    x.cause = n;
-    x.pc = 64;
+    let entered = Special {
+        epc: q.pc,
+        cause: n,
+        pc: 64,
+        ..q
+    };
     if q.mode != 1 {
-        return x;
+        return entered;
     }
     let old = *r;
     let h = hiding::hash(q.drk(), old);
     let new = hiding::hide(q.drk(), &h, old);
     replace(r, new);
-    x.hash = h;
-    x.address = q.pc;
-    x.savedpid = q.pid;
-    x.savedcid = q.cid;
-    x.mode = 2;
-    x
+    Special {
+        hash: h,
+        address: q.pc,
+        savedpid: q.pid,
+        savedcid: q.cid,
+        mode: 2,
+        ..entered
+    }
 }
 
 // A fault is entered.
@@ -80,13 +85,14 @@ fn resume(r: &mut [u64; 32], q: Special) -> Ended
     let old = *r;
     let back = hiding::hide(q.drk(), &h, old);
     if hiding::hash(q.drk(), back) == h {
-        let mut x = q;
-        x.pc = q.epc;
-        x.mode = 1;
         replace(r, back);
         return Ended {
             fault: None,
-            special: x,
+            special: Special {
+                pc: q.epc,
+                mode: 1,
+                ..q
+            },
         };
     }
     faulted(r, q, Fault::RegisterHashWrong)
@@ -101,10 +107,8 @@ pub fn rfi(r: &mut [u64; 32], q: Special) -> Ended
     if resuming(r, q) {
         return resume(r, q);
     }
-    let mut x = q;
-    x.pc = q.epc;
     Ended {
         fault: None,
-        special: x,
+        special: Special { pc: q.epc, ..q },
     }
 }

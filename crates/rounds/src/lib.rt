@@ -23,6 +23,9 @@ fn diagonal<T: Copy>(t: &[T; 256], x: Columns) -> [T; 4]
     ]
 }
 
+// Kept: `shared`, `substituted` and `lowest` are three, since one with the step as a closure would be no plainer: they
+// differ in the table's type and in how four entries become a word, and what they share is `diagonal`.
+
 // The shares of the bytes of a diagonal in their column, plus a word of a round key.
 pub fn shared(t: &[u32; 256], x: Columns, k: u32) -> u32
     ensures { result ≡ shared_word t.now x.a x.b x.c x.d ⊕ k }
@@ -44,6 +47,7 @@ fn lowest(t: &[u32; 256], x: Columns, k: u32) -> u32
     ensures { result ≡ lowest_word t.now x.a x.b x.c x.d ⊕ k }
 {
     let [a, b, c, d] = diagonal(t, x);
+    // Kept: each `% 256`, since an `as u8` has to show that its number fits.
     columns::word_of(
         (a % 256) as u8,
         (b % 256) as u8,
@@ -51,6 +55,9 @@ fn lowest(t: &[u32; 256], x: Columns, k: u32) -> u32
         (d % 256) as u8,
     ) ^ k
 }
+
+// Kept: r is a number with a bound and not a type of its own, which would be no plainer: each of the six calls would
+// wrap its number, as `Round { number: 10 - r }`, for the one line that five contracts spend on it.
 
 // Round key r.
 pub fn round_key(w: &[u32; 44], r: usize) -> Columns
@@ -71,7 +78,7 @@ pub fn add_round_key(x: Columns, w: &[u32; 44], r: usize) -> Columns
     requires { r ≤ 10 }
     ensures { block_of result ≡ add_round_key w.now r (block_of x) }
 {
-    columns::plus(x, round_key(w, r))
+    x ^ round_key(w, r)
 }
 
 // The columns from the second on, and then the first.

@@ -2,14 +2,12 @@
 #![tactic(auto)]
 
 ghost use Rattle.std.specs.Prelude.{◌≡◌, ◌*◌, ◌≤◌};
-ghost use Rattle.field.specs.Field.{sub_byte};
-ghost use Rattle.field.specs.Mixing.{unmixed_entry};
-ghost use Rattle.field.specs.Table.{Table};
 ghost use Rattle.aes_standard.specs.Schedule.{key_expansion};
 ghost use Rattle.columns.specs.Words.{NextKey, four_set};
 ghost use Rattle.schedule.specs.Inverse.{Unmixed, InverseKey, InverseKeys, alike};
 
 use columns::Columns;
+use tables::{InvMixColumns, SubBytes};
 
 // The round constants, Rcon[1] to Rcon[10].
 const RCON: [u32; 10] = [
@@ -30,11 +28,10 @@ fn alike(k: u32) -> Columns
 }
 
 // The four words of the schedule after x.
-fn next(t: &[u8; 256], x: Columns, rcon: u32) -> Columns
-    requires { Table 256 sub_byte t.now }
+fn next(t: &SubBytes, x: Columns, rcon: u32) -> Columns
     ensures { NextKey x rcon result }
 {
-    let a = x.a ^ rounds::substituted(t, alike(columns::turn::<3>(x.d)), rcon);
+    let a = x.a ^ rounds::substituted(&t.entries, alike(columns::turn::<3>(x.d)), rcon);
     let b = x.b ^ a;
     let c = x.c ^ b;
     Columns {
@@ -64,7 +61,7 @@ pub fn expand(key: &[u8; 16]) -> [u32; 44]
     let t = tables::sbox();
     let constants = RCON;
     let mut w = [0u32; 44];
-    let mut x = columns::columns_of(key);
+    let mut x = Columns::from(key);
     put(&mut w, 0, x);
     for r in 0..10 {
         x = next(&t, x, constants[r]);
@@ -74,20 +71,16 @@ pub fn expand(key: &[u8; 16]) -> [u32; 44]
 }
 
 // InvMixColumns of a word, through the S-box s and the table t.
-fn unmixed(s: &[u8; 256], t: &[u32; 256], k: u32) -> u32
-    requires table { Table 256 sub_byte s.now }
-    requires table_2 { Table 256 unmixed_entry t.now }
+fn unmixed(s: &SubBytes, t: &InvMixColumns, k: u32) -> u32
     ensures { Unmixed k result }
 {
-    let x = rounds::substituted(s, alike(k), 0);
-    rounds::shared(t, alike(x), 0)
+    let x = rounds::substituted(&s.entries, alike(k), 0);
+    rounds::shared(&t.entries, alike(x), 0)
 }
 
 // What the inverse cipher takes for round key r of the schedule w, through the S-box s and the table t.
-fn inverse_key(s: &[u8; 256], t: &[u32; 256], w: &[u32; 44], r: usize) -> Columns
-    requires table { Table 256 sub_byte s.now }
-    requires table_2 { Table 256 unmixed_entry t.now }
-    requires r_bound { r ≤ 10 }
+fn inverse_key(s: &SubBytes, t: &InvMixColumns, w: &[u32; 44], r: usize) -> Columns
+    requires { r ≤ 10 }
     ensures { InverseKey w.now r result }
 {
     let k = columns::flip(rounds::round_key(w, r));

@@ -1,7 +1,7 @@
 // The operations of a script, each by its statement.
 #![tactic(auto)]
 
-use board_text::names::Operation;
+use board_text::names::{Kind, Operation};
 use board_text::statement::Statement;
 use cache::buffers::Buffers;
 use host::answer::Answer;
@@ -37,15 +37,17 @@ fn bus_read(to: &impl Print, n: u64, p: Processor, lent: &mut Buffers) -> io::Re
     Ok(answer)
 }
 
-// One operation, by its statement; none where it only lists. An error is one of writing.
+// One operation, by its statement; a statement that names no other operation cuts the power. An error is one of writing.
 pub fn done(
     to: &impl Print,
-    operation: Operation,
     s: &Statement,
     p: Processor,
     lent: &mut Buffers,
-) -> io::Result<Option<Answer>> {
+) -> io::Result<Answer> {
     let n = s.value(0);
+    let Kind::Operation(operation) = s.kind else {
+        return Ok(restarts::power_cut(p, lent));
+    };
     let answer = match operation {
         Operation::Run => running::run(p, lent, n),
         Operation::Interrupt => running::interrupt(p, lent),
@@ -55,8 +57,7 @@ pub fn done(
         Operation::Drop => dropping::evict_line(p, lent, n),
         Operation::WriteBack => dropping::write_back(p, lent),
         Operation::Reboot => restarts::reboot(p, lent),
-        Operation::PowerCut => restarts::power_cut(p, lent),
-        Operation::List => return Ok(None),
+        Operation::PowerCut | Operation::List => restarts::power_cut(p, lent),
     };
-    Ok(Some(answer))
+    Ok(answer)
 }

@@ -17,6 +17,8 @@ pub struct Kinds {
 }
 
 // A sheet.
+// Kept: `warm` is a flag, as `Says` and `FilledIn` have it; an enum of two runs is no plainer, since a third run's sheet
+// is warm too, and `Run` of the pages has all three.
 #[derive(Clone, Copy, Debug, PartialEq, Eq)]
 pub struct Sheet {
     pub warm: bool,

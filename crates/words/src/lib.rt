@@ -14,6 +14,7 @@ pub fn read_four(s: &[u8], at: usize) -> u64
 }
 
 // The word of eight bytes from a place on.
+// Kept: beside `read_four`, each one call of std; one for both would need a trait over the widths, and is no plainer.
 pub fn read_eight(s: &[u8], at: usize) -> u64
     requires { at + 8 ≤ length s.now }
     ensures { result ≡ little (part_at at 8 s.now) }

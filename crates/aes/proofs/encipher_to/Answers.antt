@@ -10,5 +10,5 @@ returns c =
     let size : length c.args.out.now ≡ 16 = search rules in
     let x = block_of c.through.result in
     c.store.ensures ∙ put_at-all 16 x c.args.out.now size
-    ∙ encipher-is c.mixed-t.result c.args.w.now c.args.block.now (block_of c.columns_of.result) x
-    c.mixed-t.ensures c.columns_of.ensures.block c.through.ensures
+    ∙ encipher-is c.mixed.result.entries c.args.w.now c.args.block.now (block_of c.from.result) x
+    c.mixed.result.rule c.from.ensures.block c.through.ensures

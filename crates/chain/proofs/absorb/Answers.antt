@@ -22,9 +22,9 @@ pub returns : goal.returns
 unfolding last_of_chain
 returns c =
     let n = length c.args.b.now / 16 in
-    c.bytes_of.ensures
+    c.into.ensures
     ∙ sym (absorbed-none c.args.w.now n c.loop-i.i (block_of c.loop-i.x) (drop (c.loop-i.i * 16) c.args.b.now)
     (omega arith))
     ∙ sym c.loop-i.invariant
-    ∙ ap (λ (z : List ℕ). absorbed c.args.w.now n z c.args.b.now) c.columns_of-x.ensures.block
+    ∙ ap (λ (z : List ℕ). absorbed c.args.w.now n z c.args.b.now) c.from-x.ensures.block
     ∙ absorbed-from c.args.w.now n c.args.before.now c.args.b.now (omega arith)

@@ -23,5 +23,5 @@ returns c =
     let n = length c.args.b.now / 16 in
     after-all c.loop-i.i _ c.args.b.now c.loop-i.b _
     (λ r. chained-none c.args.w.now n c.loop-i.i (block_of c.loop-i.x) r (omega arith)) c.loop-i.invariant
-    ∙ ap (λ (z : List ℕ). chained c.args.w.now n z c.args.b.now) c.columns_of-x.ensures.block
+    ∙ ap (λ (z : List ℕ). chained c.args.w.now n z c.args.b.now) c.from-x.ensures.block
     ∙ chained-from c.args.w.now n c.args.iv.now c.args.b.now

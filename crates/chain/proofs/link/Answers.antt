@@ -7,7 +7,7 @@ use Rattle.chain.proofs.link.Goals as goal
 pub returns : goal.returns
 returns c =
     link_is c.args.w.now c.args.b.now c.args.k (block_of c.args.before)
-    (block_of c.columns_at.result) (block_of c.plus-x.result) (block_of c.through.result)
-    c.requires.k_in_bounds c.columns_at.ensures c.plus-x.ensures
-    (through_there c.args.t.now c.args.w.now (block_of c.plus-x.result) (block_of c.through.result)
-    c.requires.table c.through.ensures)
+    (block_of c.columns_at.result) (block_of c.bitxor-x.result) (block_of c.through.result)
+    c.requires c.columns_at.ensures c.bitxor-x.ensures
+    (through_there c.args.t.now.entries c.args.w.now (block_of c.bitxor-x.result) (block_of c.through.result)
+    c.args.t.now.rule c.through.ensures)

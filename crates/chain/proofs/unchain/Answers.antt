@@ -33,5 +33,5 @@ returns c =
     let inv = eq_inv_cipher c.args.v.now in
     after-all c.loop-i.i _ c.args.b.now c.loop-i.b _
     (λ r. unchained-none inv n c.loop-i.i (block_of c.loop-i.x) r (omega arith)) c.loop-i.invariant
-    ∙ ap (λ (z : List ℕ). unchained inv n z c.args.b.now) c.columns_of-x.ensures.block
+    ∙ ap (λ (z : List ℕ). unchained inv n z c.args.b.now) c.from-x.ensures.block
     ∙ unchained-from inv n c.args.iv.now c.args.b.now

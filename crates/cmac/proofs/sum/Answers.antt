@@ -6,4 +6,4 @@ use Rattle.cmac.proofs.sum.Goals as goal
 pub returns : goal.returns
 unfolding plus
 returns c =
-    c.bytes_of.ensures ∙ c.plus.ensures ∙ ap₂ plus c.columns_of.ensures.block c.columns_of-2.ensures.block
+    c.into.ensures ∙ c.bitxor.ensures ∙ ap₂ plus c.from.ensures.block c.from-2.ensures.block

@@ -6,5 +6,5 @@ use Rattle.rounds.proofs.add_round_key.Goals as goal
 pub returns : goal.returns
 returns c =
     let args = c.args in
-    c.plus.ensures ∙ key-added args.w.now args.r args.x c.round_key.result
+    c.bitxor.ensures ∙ key-added args.w.now args.r args.x c.round_key.result
     c.round_key.ensures

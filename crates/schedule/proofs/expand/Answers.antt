@@ -13,7 +13,7 @@ unfolding ◌⊕◌ xtimes xpower rcon word
 loop-r-init c = (
   table 10 (λ k. rcon (k + 1)) _ refl tt,
   rw c.put.ensures (laid_first c.args.key.now
-      (replicate 44 0) c.columns_of-x.result refl c.columns_of-x.ensures),
+      (replicate 44 0) c.from-x.result refl c.from-x.ensures),
 )
 
 pub loop-r-preserved : goal.loop-r-preserved

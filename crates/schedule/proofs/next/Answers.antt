@@ -12,8 +12,8 @@ returns c =
     let args = c.args in
     record {
       first = ap (λ (z : ℕ). bit_xor args.x.a z)
-          (fourth_part args.t.now args.x.d c.turn.result args.rcon c.substituted.result
-          c.requires c.turn.ensures (rw c.alike.ensures at c.substituted.ensures));
+          (fourth_part args.t.now.entries args.x.d c.turn.result args.rcon c.substituted.result
+          args.t.now.rule c.turn.ensures (rw c.alike.ensures at c.substituted.ensures));
       second = refl;
       third = refl;
       fourth = refl;

@@ -7,6 +7,6 @@ pub returns : goal.returns
 returns c =
     let args = c.args in
     let x = c.substituted-x in
-    unmixed_key args.s.now args.t.now args.k x.result c.shared.result c.requires.table
-    (shares_back args.t.now c.requires.table_2)
+    unmixed_key args.s.now.entries args.t.now.entries args.k x.result c.shared.result args.s.now.rule
+    (shares_back args.t.now.entries args.t.now.rule)
     (rw c.alike.ensures at x.ensures) (rw c.alike-2.ensures at c.shared.ensures)

@@ -7,8 +7,11 @@ use Rattle.field.proofs.SBoxLaws.{listed_sub, listed_sub-sub_byte}
 use Rattle.field.proofs.Tables.{table-by}
 use Rattle.tables.proofs.mixed.Goals as goal
 
-pub returns : goal.returns
+pub invariant_of-result : goal.invariant_of-result
 unfolding ◌⊕◌ xtimes product_by ◌•◌ digit from_digits affine inverses listed_sub word share mixed_entry
-returns c =
+invariant_of-result c =
     let mixing = share 2 3 1 1 in
-    table-by 256 (λ k. mixing (listed_sub k)) mixed_entry (λ k h. ap mixing (listed_sub-sub_byte k h)) _ refl tt
+    record {
+      rule = table-by 256 (λ k. mixing (listed_sub k)) mixed_entry
+          (λ k h. ap mixing (listed_sub-sub_byte k h)) _ refl tt;
+    }

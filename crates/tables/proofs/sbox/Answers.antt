@@ -6,6 +6,6 @@ use Rattle.field.proofs.SBoxLaws.{listed_sub, listed_sub-sub_byte}
 use Rattle.field.proofs.Tables.{table-by}
 use Rattle.tables.proofs.sbox.Goals as goal
 
-pub returns : goal.returns
+pub invariant_of-result : goal.invariant_of-result
 unfolding ◌⊕◌ digit from_digits affine inverses listed_sub
-returns c = table-by 256 listed_sub sub_byte listed_sub-sub_byte _ refl tt
+invariant_of-result c = record { rule = table-by 256 listed_sub sub_byte listed_sub-sub_byte _ refl tt }

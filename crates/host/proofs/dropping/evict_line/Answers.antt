@@ -4,14 +4,14 @@ use Rattle.model.specs.Requests as asks
 use Rattle.instructions.specs.Refusals.{line_flaws}
 use Rattle.instructions.specs.Calls.{evict_line, buffer_of, call_flaws, accepted}
 use Rattle.machine.specs.Lent.{given}
-use Rattle.host.proofs.Refusing.{refused_leaves, accepts}
+use Rattle.host.proofs.Refusing.{refusal-leaves, accepts}
 use Rattle.host.proofs.Accepting.{fit, line-asks, same_record, asked_leaves, evict_handles}
 use Rattle.host.proofs.dropping.evict_line.Goals as goal
 
 pub returns-in-Err-clause-leaves : goal.returns-in-Err-clause-leaves
 unfolding buffer_of call_flaws line_flaws
 returns-in-Err-clause-leaves c =
-    refused_leaves _ _ c.line-own.ensures c.refusal_on.ensures c.in-Err.is c.refused.ensures refl
+    refusal-leaves _ _ c.line-own.ensures c.refusal_on.ensures c.in-Err.is c.refused.ensures refl
 
 pub drop_line-requires : goal.drop_line-requires
 unfolding call_flaws line_flaws

@@ -4,14 +4,14 @@ use Rattle.model.specs.Cached.{cached}
 use Rattle.instructions.specs.Board.{document_board}
 use Rattle.instructions.specs.Calls.{power_cut, buffer_of, call_flaws, accepted, cached_setup}
 use Rattle.machine.specs.Lent.{given}
-use Rattle.host.proofs.Refusing.{refused_leaves, accepts}
+use Rattle.host.proofs.Refusing.{refusal-leaves, accepts}
 use Rattle.host.proofs.Accepting.{fit, changed_leaves}
 use Rattle.host.proofs.restarts.power_cut.Goals as goal
 
 pub returns-in-Err-clause-leaves : goal.returns-in-Err-clause-leaves
 unfolding buffer_of call_flaws
 returns-in-Err-clause-leaves c =
-    refused_leaves _ _ refl c.refusal_on.ensures c.in-Err.is c.refused.ensures refl
+    refusal-leaves _ _ refl c.refusal_on.ensures c.in-Err.is c.refused.ensures refl
 
 pub lose_all-requires : goal.lose_all-requires
 unfolding call_flaws

@@ -3,14 +3,14 @@ use Rattle.std.proofs.Common.{[], refl}
 use Rattle.model.specs.Requests as asks
 use Rattle.instructions.specs.Calls.{reboot, buffer_of, call_flaws, accepted}
 use Rattle.machine.specs.Lent.{given}
-use Rattle.host.proofs.Refusing.{refused_leaves, accepts}
+use Rattle.host.proofs.Refusing.{refusal-leaves, accepts}
 use Rattle.host.proofs.Accepting.{fit, asked_leaves, flush_handles}
 use Rattle.host.proofs.restarts.reboot.Goals as goal
 
 pub returns-in-Err-clause-leaves : goal.returns-in-Err-clause-leaves
 unfolding buffer_of call_flaws
 returns-in-Err-clause-leaves c =
-    refused_leaves _ _ refl c.refusal_on.ensures c.in-Err.is c.refused.ensures refl
+    refusal-leaves _ _ refl c.refusal_on.ensures c.in-Err.is c.refused.ensures refl
 
 pub evict_all-k-requires : goal.evict_all-k-requires
 unfolding call_flaws

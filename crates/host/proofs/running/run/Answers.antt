@@ -2,14 +2,14 @@
 use Rattle.std.proofs.Common.{refl}
 use Rattle.instructions.specs.Calls.{run, buffer_of, call_flaws, accepted}
 use Rattle.machine.specs.Lent.{given}
-use Rattle.host.proofs.Refusing.{refused_leaves, accepts}
+use Rattle.host.proofs.Refusing.{refusal-leaves, accepts}
 use Rattle.host.proofs.Accepting.{run-asks, run_leaves}
 use Rattle.host.proofs.running.run.Goals as goal
 
 pub returns-in-Err-clause-leaves : goal.returns-in-Err-clause-leaves
 unfolding buffer_of call_flaws
 returns-in-Err-clause-leaves c =
-    refused_leaves _ _ c.steps-own.ensures c.refusal_on.ensures c.in-Err.is c.refused.ensures refl
+    refusal-leaves _ _ c.steps-own.ensures c.refusal_on.ensures c.in-Err.is c.refused.ensures refl
 
 pub run-x-requires : goal.run-x-requires
 unfolding call_flaws

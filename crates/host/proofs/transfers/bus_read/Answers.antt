@@ -4,14 +4,14 @@ use Rattle.model.specs.Requests as asks
 use Rattle.instructions.specs.Refusals.{buffer_flaws}
 use Rattle.instructions.specs.Calls.{bus_read, buffer_of, call_flaws, accepted, replied}
 use Rattle.machine.specs.Lent.{given}
-use Rattle.host.proofs.Refusing.{refused_leaves, accepts}
+use Rattle.host.proofs.Refusing.{refusal-leaves, accepts}
 use Rattle.host.proofs.Accepting.{transfer_asks, same_record, asked_leaves}
 use Rattle.host.proofs.transfers.bus_read.Goals as goal
 
 pub returns-in-Err-clause-leaves : goal.returns-in-Err-clause-leaves
 unfolding buffer_of call_flaws buffer_flaws
 returns-in-Err-clause-leaves c =
-    refused_leaves _ _ c.transfer-own.ensures c.refusal_on.ensures c.in-Err.is c.refused.ensures refl
+    refusal-leaves _ _ c.transfer-own.ensures c.refusal_on.ensures c.in-Err.is c.refused.ensures refl
 
 pub read-requires : goal.read-requires
 unfolding call_flaws buffer_flaws

@@ -1,10 +1,10 @@
--- `machine::run::steps` meets its promise.
+-- `machine::run::run` meets its promise.
 use Prim.Native.Nat.{◌*◌}
 use native.Mathlib.Omega.{arith}
 use Rattle.cache.proofs.Following.{small_bounded}
 use Rattle.machine.proofs.Serving.{fault_none, fault_some}
 use Rattle.machine.proofs.Running.{step_small, going_none, going_more, going_stops, going_all}
-use Rattle.machine.proofs.run.steps.Goals as goal
+use Rattle.machine.proofs.run.run.Goals as goal
 
 pub loop-i-init : goal.loop-i-init
 loop-i-init c =

@@ -1,9 +1,9 @@
--- `machine::run::steps` meets its promise.
+-- `machine::run::run` meets its promise.
 use Rattle.cache.specs.Lent.{counts_in}
 use Rattle.cache.specs.Held.{SameBuffers}
 use Rattle.machine.specs.Steps.{machine_on}
 use Rattle.machine.proofs.Running.{Going}
-use Rattle.machine.proofs.run.steps.Given as goal
+use Rattle.machine.proofs.run.run.Given as goal
 
 abbrev pub invariant-loop-i : goal.invariant-loop-i
 invariant-loop-i l =

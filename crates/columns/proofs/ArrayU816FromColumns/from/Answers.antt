@@ -1,9 +1,9 @@
--- `columns::bytes_of` meets its promise.
+-- The sixteen bytes that are laid down are the whole block.
 use Rattle.columns.proofs.StoreLaws.{put_at-all}
 use Rattle.columns.specs.Words.{block_of}
 use lib.ListN.{replicate}
 use mathlib.Core.Path.{refl, ◌∙◌}
-use Rattle.columns.proofs.bytes_of.Goals as goal
+use Rattle.columns.proofs.ArrayU816FromColumns.from.Goals as goal
 
 pub returns : goal.returns
 returns c = c.store.ensures

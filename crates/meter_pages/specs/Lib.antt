@@ -1,0 +1,2 @@
+-- What the pages of the meter mean.
+pub mod Runs
