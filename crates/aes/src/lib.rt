@@ -28,7 +28,8 @@ pub fn encipher_to(w: &[u32; 44], block: &[u8; 16], out: &mut [u8; 16])
     ensures { out.new ≡ cipher w.now block.now }
 {
     let t = tables::mixed().entries;
-    columns::store(ways::through(&t, &t, w, Columns::from(block)), out, 0);
+    let x = ways::through(&t, &t, w, Columns::from(block));
+    columns::store(x, out, 0);
 }
 
 // InvCipher: a block under a key.

@@ -5,9 +5,9 @@ ghost use Rattle.std.specs.Result.{result_ok};
 ghost use Rattle.board_file.specs.Boards.{Whole, Read};
 
 use board_numbers::errors::{FileError, Misread};
+use board_text::lines;
 use board_text::names::{Kind, Setting};
-use board_text::statement::Statement;
-use board_text::{lines, statement};
+use board_text::statement::{Said, Statement};
 use sealing::Drk;
 
 // A board.
@@ -127,9 +127,10 @@ impl Draft {
 
     // What a line says of the board.
     fn take(&mut self, line: &[u8]) -> Result<(), FileError> {
-        let Some(statement) = statement::read(line)? else {
+        let Some(said) = Said::of(line) else {
             return Ok(());
         };
+        let statement = said.statement()?;
         match statement.kind {
             Kind::Setting(setting) => self.set(setting, &statement),
             _ => Ok(()),

@@ -3,5 +3,7 @@
 
 pub mod lines;
 pub mod names;
+pub mod numbers;
 mod shape;
 pub mod statement;
+mod words;

@@ -3,7 +3,7 @@
 
 ghost use Rattle.std.specs.Prelude.{◌≡◌, [], ◌<◌, ◌/◌, length};
 ghost use Rattle.std.proofs.Math.Option.{some};
-ghost use Rattle.model.specs.Lines.{line_at};
+ghost use Rattle.model.specs.Lines.{line_at, put_line};
 ghost use Rattle.model.specs.Requests.{bus_read, bus_write, bus_mac};
 ghost use Rattle.cache.specs.Lent.{counts_in, Fit};
 ghost use Rattle.cache.specs.Held.{SameBuffers, memory_in};
@@ -20,6 +20,17 @@ fn load(mem: &[u8], n: usize, line: &mut [u8])
 {
     let a = n * 64;
     line.copy_from_slice(&mem[a..a + 64]);
+}
+
+// Line n of a memory becomes another.
+// Not inlined: where it is, a call over the bus takes a third more, since its answer is first filled with zeros.
+#[inline(never)]
+fn save(mem: &mut [u8], n: usize, line: &[u8])
+    requires { (n < length mem.old / 64) × (length line.now ≡ 64) }
+    ensures { mem.new ≡ put_line n line.now mem.old }
+{
+    let a = n * 64;
+    mem[a..a + 64].copy_from_slice(line);
 }
 
 // Line n of memory goes to a buffer of 64 bytes.
@@ -46,8 +57,7 @@ pub fn write(drk: Drk, buffers: &mut Buffers, n: usize, line: &[u8]) -> Counts
         (counts_in result) (memory_in drk buffers.new) }
 {
     let k = buffers.drop_line(drk, n);
-    let a = n * 64;
-    buffers.mem[a..a + 64].copy_from_slice(line);
+    save(buffers.mem, n, line);
     k
 }
 

@@ -41,7 +41,8 @@ fn unlink(
         v,
         columns::flip(columns::columns_at(b, k)),
     );
-    columns::store(columns::flip(x) ^ before, b, k);
+    let y = columns::flip(x) ^ before;
+    columns::store(y, b, k);
 }
 
 // Kept: `absorb`, `encrypt` and `unchain` each go over the blocks by themselves. One loop with the step as a closure

@@ -3,9 +3,9 @@ ghost use Rattle.std.specs.Prelude.{◌≡◌, ◌≤◌, length, IfErr};
 
 use board_numbers::errors::{FileError, Misread};
 use board_numbers::number::Number;
+use board_text::lines;
 use board_text::names::{Kind, Use};
-use board_text::statement::Statement;
-use board_text::{lines, statement};
+use board_text::statement::{Said, Statement};
 use opcodes::opcode::Opcode;
 use sealing::Drk;
 
@@ -111,6 +111,8 @@ fn lay_statement(
 }
 
 // Lays every line of a text into memory, and notes each line's use.
+// Not inlined, so that the statements give their room back before a line is sealed.
+#[inline(never)]
 fn lay(text: &[u8], mem: &mut [u8], uses: &mut [Option<Use>; 1024]) -> Result<(), Misread>
     ensures line { IfErr result (λ m. m.line ≤ length text.now) }
     ensures length { length mem.new ≡ length mem.old }
@@ -121,9 +123,11 @@ fn lay(text: &[u8], mem: &mut [u8], uses: &mut [Option<Use>; 1024]) -> Result<()
             line: line.number,
             error,
         };
-        if let Some(s) = statement::read(line.text).map_err(misread)? {
-            lay_statement(&s, &mut room, mem, uses).map_err(misread)?;
-        }
+        let Some(said) = Said::of(line.text) else {
+            continue;
+        };
+        let s = said.statement().map_err(misread)?;
+        lay_statement(&s, &mut room, mem, uses).map_err(misread)?;
     }
     Ok(())
 }

@@ -9,9 +9,8 @@ mod sizes;
 ghost use Rattle.std.specs.Prelude.{◌≤◌, length};
 
 use board_file::board;
-use board_file::board::Board;
 use failure::Failure;
-use meter_options::{Format, Options};
+use meter_options::{Command, Format, Misused, Options};
 use meter_pages::book::Run;
 use meter_pages::{book, printing, rows};
 use meter_runs::{BoardFile, Later};
@@ -20,9 +19,14 @@ use std::io::Read;
 use std::rt::{Env, Files};
 use std::{fs, io};
 
+// Functions that are not inlined give their buffers back before a run, so that the sheets take the stack of one room.
+
 // Prints both sheets.
-fn both(to: &impl Print, b: &Board, s: &Sheets, format: Format) -> io::Result<()> {
-    let sheets = [&s.cold, &s.warm];
+#[inline(never)]
+fn both(to: &impl Print, file: &BoardFile, format: Format) -> io::Result<()> {
+    let b = &file.board;
+    let Sheets { cold, warm, .. } = file.both(b.slots);
+    let sheets = [&cold, &warm];
     if format == Format::Text {
         for sheet in sheets {
             printing::sheet(to, b, sheet)?;
@@ -41,6 +45,7 @@ fn both(to: &impl Print, b: &Board, s: &Sheets, format: Format) -> io::Result<()
 }
 
 // Prints the sheet of a third run, with the cache kept but for a line that is dropped where that is asked for.
+#[inline(never)]
 fn third(to: &impl Print, file: &BoardFile, o: Options) -> io::Result<()> {
     let Later { dropped, sheet } = file.third(o.drop);
     if o.format == Format::Csv {
@@ -67,7 +72,7 @@ fn show(to: &impl Print, file: &BoardFile, o: Options) -> io::Result<()> {
     if o.script {
         return script::run(to, file);
     }
-    both(to, &file.board, &file.both(file.board.slots), o.format)?;
+    both(to, file, o.format)?;
     if o.keep || o.drop.is_some() {
         third(to, file, o)?;
     }
@@ -78,6 +83,7 @@ fn show(to: &impl Print, file: &BoardFile, o: Options) -> io::Result<()> {
 const NO_TEXT: i32 = 84;
 
 // The file at a path, opened to be read; a path that is not UTF-8 is refused.
+#[inline(never)]
 fn opened<R: Files>(rt: &R, path: &[u8]) -> io::Result<R::File> {
     let path = str::from_utf8(path).map_err(|_| io::Error::from_raw_os_error(NO_TEXT))?;
     fs::open(rt, path)
@@ -99,6 +105,7 @@ fn read_full(file: &mut impl Read, text: &mut [u8]) -> usize
 }
 
 // Reads the board file at a path and prints what is asked for, or finds the text's first error.
+#[inline(never)]
 fn measure<R: Files>(rt: &R, to: &impl Print, path: &[u8], o: Options) -> Result<(), Failure> {
     let mut file = opened(rt, path).map_err(|e| Failure::Unopened(e))?;
     // Kept: a buffer and a count; std's read_to_end allocates, and the meter has fixed memory.
@@ -118,23 +125,32 @@ fn measure<R: Files>(rt: &R, to: &impl Print, path: &[u8], o: Options) -> Result
     Ok(())
 }
 
-fn main(rt: HostRuntime) -> io::Result<()> {
-    let err = rt.stderr();
-    let command = match meter_options::read(&rt) {
-        Ok(command) => command,
-        Err(misused) => {
-            return println!(err;
-                "meter: {misused}\n\
-                usage: meter FILE [--csv] [--sizes] [--script] [--keep] [--drop LINE]"
-            );
-        }
-    };
+// Says how the program is called.
+#[inline(never)]
+fn usage(to: &impl Print, misused: Misused) -> io::Result<()> {
+    println!(to;
+        "meter: {misused}\n\
+        usage: meter FILE [--csv] [--sizes] [--script] [--keep] [--drop LINE]"
+    )
+}
+
+// Prints what a command asks for, or says why there are no sheets.
+#[inline(never)]
+fn answer<R: Env + Files + Print>(rt: &R, err: &impl Print, command: Command) -> io::Result<()> {
     // Kept: a buffer and a count; std's env::args allocates, and the meter has fixed memory.
     let mut path = [0u8; 4096];
     let n = rt.arg(command.path, &mut path).unwrap_or(0);
     let path = &path[..n];
-    match measure(&rt, &rt, path, command.options) {
+    match measure(rt, rt, path, command.options) {
         Ok(()) => Ok(()),
-        Err(failure) => failure.say(&err, path),
+        Err(failure) => failure.say(err, path),
+    }
+}
+
+fn main(rt: HostRuntime) -> io::Result<()> {
+    let err = rt.stderr();
+    match meter_options::read(&rt) {
+        Ok(command) => answer(&rt, &err, command),
+        Err(misused) => usage(&err, misused),
     }
 }

@@ -1,8 +1,10 @@
 // The script of a board file: operations done in order on a board laid anew, with each answer and its counts.
+ghost use Rattle.cache.specs.Held.{SameBuffers};
+
+use board_text::lines;
 use board_text::lines::Line;
 use board_text::names::{Kind, Operation};
-use board_text::statement::Statement;
-use board_text::{lines, statement};
+use board_text::statement::{Said, Statement};
 use cache::buffers::Buffers;
 use meter_pages::printing;
 use meter_runs::BoardFile;
@@ -17,7 +19,9 @@ fn behind(
     s: &Statement,
     p: Processor,
     lent: &mut Buffers,
-) -> io::Result<Processor> {
+) -> io::Result<Processor>
+    ensures { SameBuffers lent.old lent.new }
+{
     if operation == Operation::List {
         printing::slots(to, lent.dir)?;
         return Ok(p);
@@ -29,6 +33,7 @@ fn behind(
 }
 
 // Writes which operation comes.
+#[inline(never)]
 fn announce(to: &impl Print, line: Line) -> io::Result<()> {
     print!(to; "line {}: ", line.number)?;
     to.write_all(line.text)?;
@@ -36,11 +41,16 @@ fn announce(to: &impl Print, line: Line) -> io::Result<()> {
 }
 
 // Lays a board into lent buffers, as far as its lines can be, and does the operations of its text in order.
-fn session(to: &impl Print, file: &BoardFile, lent: &mut Buffers) -> io::Result<()> {
+fn session(to: &impl Print, file: &BoardFile, lent: &mut Buffers) -> io::Result<()>
+    ensures { SameBuffers lent.old lent.new }
+{
     let _ = laying::lines::load(file.text, file.board.drk, lent.mem, lent.macs);
     let mut p = meter_runs::start(file.board);
     for line in lines::of(file.text) {
-        let Ok(Some(s)) = statement::read(line.text) else {
+        let Some(said) = Said::of(line.text) else {
+            continue;
+        };
+        let Ok(s) = said.statement() else {
             continue;
         };
         if let Kind::Operation(operation) = s.kind {
@@ -52,6 +62,7 @@ fn session(to: &impl Print, file: &BoardFile, lent: &mut Buffers) -> io::Result<
 }
 
 // Does a board's script on memory laid anew, with an empty cache.
+#[inline(never)]
 pub(crate) fn run(to: &impl Print, file: &BoardFile) -> io::Result<()> {
     println!(to; "SCRIPT: from the file anew, with an empty cache")?;
     let mut room = Room::empty();

@@ -18,6 +18,7 @@ fn size(to: &impl Print, slots: usize, s: &Sheets, format: Format) -> io::Result
 }
 
 // Cold beside warm for caches of 1, 2, 4 and so on to 64 slots.
+#[inline(never)]
 pub(crate) fn all(to: &impl Print, file: &BoardFile, format: Format) -> io::Result<()> {
     match format {
         Format::Text => rows::table_head(to)?,

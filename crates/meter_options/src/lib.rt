@@ -125,6 +125,8 @@ fn argument(env: &impl Env, place: usize, word: &mut [u8; 4096]) -> Option<usize
 }
 
 // What all arguments ask for, the program's name aside.
+// Not inlined, so that the program's stack is free of a word's buffer afterwards.
+#[inline(never)]
 pub fn read(env: &impl Env) -> Result<Command, Misused> {
     let mut asked = Asked::default();
     // Kept: a buffer and a count; std's env::args allocates, and the meter has fixed memory.

@@ -5,6 +5,7 @@ pub mod room;
 
 ghost use Rattle.std.specs.Prelude.{◌≤◌};
 ghost use Rattle.board_file.specs.Boards.{Within};
+ghost use Rattle.cache.specs.Held.{SameBuffers};
 
 use board_file::board::Board;
 use board_numbers::errors::Misread;
@@ -52,10 +53,13 @@ pub fn start(b: Board) -> Processor {
     }
 }
 
+// `laid`, `both` and `third` are not inlined, so that each gives its room back when it is done: a run has the stack of one.
+//
 // Kept: `laid`, `both` and `third` are alike in two lines, the room and what is lent of it; a function that takes the
 // step behind them as a closure is longer than those.
 impl BoardFile<'_> {
     // The error of laying the board's lines, where there is one.
+    #[inline(never)]
     pub fn laid(&self) -> Result<(), Misread> {
         let mut room = Room::empty();
         let Buffers { mem, macs, .. } = room.lend(&self.board, 0);
@@ -63,12 +67,15 @@ impl BoardFile<'_> {
     }
 
     // The cold and the warm sheet of the board that is laid into lent buffers, as far as its lines can be.
-    fn both_on(&self, lent: &mut Buffers) -> Sheets {
+    fn both_on(&self, lent: &mut Buffers) -> Sheets
+        ensures { SameBuffers lent.old lent.new }
+    {
         let _ = lines::load(self.text, self.board.drk, lent.mem, lent.macs);
         running::both(start(self.board), lent, self.board.steps)
     }
 
     // The cold and the warm sheet with so many slots.
+    #[inline(never)]
     pub fn both(&self, slots: usize) -> Sheets
         requires { slots ≤ 64 }
     {
@@ -78,13 +85,16 @@ impl BoardFile<'_> {
     }
 
     // One run more from a record, with the cache as it is.
-    fn once_more(&self, left: Processor, lent: &mut Buffers) -> Sheet {
+    fn once_more(&self, left: Processor, lent: &mut Buffers) -> Sheet
+        ensures { SameBuffers lent.old lent.new }
+    {
         let again = running::again(start(self.board), left);
         running::once_more(again, lent, self.board.steps).sheet
     }
 
     // The sheet of a third run, with the cache as the warm run left it but for a line that is dropped where that is
     // asked for; a line past memory drops nothing.
+    #[inline(never)]
     pub fn third(&self, line: Option<u64>) -> Later {
         let mut room = Room::empty();
         let mut lent = room.lend(&self.board, self.board.slots);
@@ -96,6 +106,8 @@ impl BoardFile<'_> {
 }
 
 // What dropping a line reports.
-fn drop_line(left: Processor, line: u64, lent: &mut Buffers) -> Report {
+fn drop_line(left: Processor, line: u64, lent: &mut Buffers) -> Report
+    ensures { SameBuffers lent.old lent.new }
+{
     dropping::evict_line(left, lent, line).report
 }

@@ -1,6 +1,8 @@
 // The operations of a script, each by its statement.
 #![tactic(auto)]
 
+ghost use Rattle.cache.specs.Held.{SameBuffers};
+
 use board_text::names::{Kind, Operation};
 use board_text::statement::Statement;
 use cache::buffers::Buffers;
@@ -30,7 +32,9 @@ fn write_line(to: &impl Print, line: &[u8]) -> io::Result<()> {
 }
 
 // A line read over the bus, and its bytes written.
-fn bus_read(to: &impl Print, n: u64, p: Processor, lent: &mut Buffers) -> io::Result<Answer> {
+fn bus_read(to: &impl Print, n: u64, p: Processor, lent: &mut Buffers) -> io::Result<Answer>
+    ensures { SameBuffers lent.old lent.new }
+{
     let mut line = [0u8; 64];
     let answer = transfers::bus_read(p, lent, &mut line, n);
     write_line(to, &line)?;
@@ -38,12 +42,9 @@ fn bus_read(to: &impl Print, n: u64, p: Processor, lent: &mut Buffers) -> io::Re
 }
 
 // One operation, by its statement; a statement that names no other operation cuts the power. An error is one of writing.
-pub fn done(
-    to: &impl Print,
-    s: &Statement,
-    p: Processor,
-    lent: &mut Buffers,
-) -> io::Result<Answer> {
+pub fn done(to: &impl Print, s: &Statement, p: Processor, lent: &mut Buffers) -> io::Result<Answer>
+    ensures { SameBuffers lent.old lent.new }
+{
     let n = s.value(0);
     let Kind::Operation(operation) = s.kind else {
         return Ok(restarts::power_cut(p, lent));
