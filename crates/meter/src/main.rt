@@ -9,6 +9,8 @@ mod sizes;
 ghost use Rattle.std.specs.Prelude.{◌≤◌, length};
 
 use board_file::board;
+use board_file::board::Board;
+use board_numbers::errors::Misread;
 use failure::Failure;
 use meter_options::{Command, Format, Misused, Options};
 use meter_pages::book::Run;
@@ -21,12 +23,10 @@ use std::{fs, io};
 
 // Functions that are not inlined give their buffers back before a run, so that the sheets take the stack of one room.
 
-// Prints both sheets.
+// Prints both sheets of a board.
 #[inline(never)]
-fn both(to: &impl Print, file: &BoardFile, format: Format) -> io::Result<()> {
-    let b = &file.board;
-    let Sheets { cold, warm, .. } = file.both(b.slots);
-    let sheets = [&cold, &warm];
+fn print_both(to: &impl Print, b: &Board, s: &Sheets, format: Format) -> io::Result<()> {
+    let sheets = [&s.cold, &s.warm];
     if format == Format::Text {
         for sheet in sheets {
             printing::sheet(to, b, sheet)?;
@@ -42,6 +42,13 @@ fn both(to: &impl Print, file: &BoardFile, format: Format) -> io::Result<()> {
         rows::slots(to, Run::of(sheet).number(), b.slots, sheet)?;
     }
     Ok(())
+}
+
+// Runs a board twice, and prints both sheets.
+#[inline(never)]
+fn both(to: &impl Print, file: &BoardFile, format: Format) -> io::Result<()> {
+    let sheets = file.both(file.board.slots);
+    print_both(to, &file.board, &sheets, format)
 }
 
 // Prints the sheet of a third run, with the cache kept but for a line that is dropped where that is asked for.
@@ -104,6 +111,17 @@ fn read_full(file: &mut impl Read, text: &mut [u8]) -> usize
     done
 }
 
+// The board file of a text whose lines can be laid, or the text's first error.
+#[inline(never)]
+fn understood(text: &[u8]) -> Result<BoardFile<'_>, Misread> {
+    let file = BoardFile {
+        text,
+        board: board::read(text)?,
+    };
+    file.laid()?;
+    Ok(file)
+}
+
 // Reads the board file at a path and prints what is asked for, or finds the text's first error.
 #[inline(never)]
 fn measure<R: Files>(rt: &R, to: &impl Print, path: &[u8], o: Options) -> Result<(), Failure> {
@@ -115,13 +133,7 @@ fn measure<R: Files>(rt: &R, to: &impl Print, path: &[u8], o: Options) -> Result
     if n == text.len() {
         return Err(Failure::TooLong);
     }
-    let text = &text[..n];
-    let file = BoardFile {
-        text,
-        board: board::read(text)?,
-    };
-    file.laid()?;
-    show(to, &file, o)?;
+    show(to, &understood(&text[..n])?, o)?;
     Ok(())
 }
 

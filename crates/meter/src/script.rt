@@ -61,11 +61,22 @@ fn session(to: &impl Print, file: &BoardFile, lent: &mut Buffers) -> io::Result<
     Ok(())
 }
 
-// Does a board's script on memory laid anew, with an empty cache.
+// Writes what the script is done on.
 #[inline(never)]
-pub(crate) fn run(to: &impl Print, file: &BoardFile) -> io::Result<()> {
-    println!(to; "SCRIPT: from the file anew, with an empty cache")?;
+fn head(to: &impl Print) -> io::Result<()> {
+    println!(to; "SCRIPT: from the file anew, with an empty cache")
+}
+
+// Does a board's script in a room of its own.
+#[inline(never)]
+fn in_a_room(to: &impl Print, file: &BoardFile) -> io::Result<()> {
     let mut room = Room::empty();
     let mut lent = room.lend(&file.board, file.board.slots);
     session(to, file, &mut lent)
+}
+
+// Does a board's script on memory laid anew, with an empty cache.
+pub(crate) fn run(to: &impl Print, file: &BoardFile) -> io::Result<()> {
+    head(to)?;
+    in_a_room(to, file)
 }
